@@ -1,0 +1,4 @@
+pub mod CurrentFile
+pub mod MemoryObjects
+pub mod Outside
+pub mod SegmentFields
