@@ -1,0 +1,6 @@
+pub mod Steps
+pub mod Keys
+pub mod Rounds
+pub mod Finite
+pub mod Local
+pub mod Rows
