@@ -1,0 +1,30 @@
+//! Models after the SSF API 1.0: entities with processes that wait on in-channels and for times, and
+//! out-channels that are mapped to in-channels.
+//!
+//! A model is a [`Behaviour`]: how a process reacts to what wakes it. [`Entity::deliver`] is the wake
+//! rule, [`PlanBuilder`] makes a [`Plan`], and a plan's run is that of a machine of `event_machine`.
+//!
+//! Contracts cite `specs/Wake.antt`, `Reaction.antt` and `Deliver.antt` (what wakes a process, what a
+//! behaviour keeps, what an event makes of its entity), `Channels.antt` (what its writes send),
+//! `Drafts.antt` (plans that are being made) and `Run.antt` (well-formed plans and their runs).
+#![tactic(auto)]
+
+mod behaviour;
+mod builder;
+mod entity;
+mod event;
+mod out;
+mod plan;
+mod process;
+mod wait;
+
+pub use behaviour::Behaviour;
+pub use builder::{
+    BuildFault, DraftEntity, LONGEST_DELAY, MOST_CHANNELS, MOST_ENDS, OutChannel, PlanBuilder,
+};
+pub use entity::Entity;
+pub use event::{Entry, Event, Line, Names, Parcel};
+pub use out::{Out, Written};
+pub use plan::{Mapping, Plan};
+pub use process::Process;
+pub use wait::{ChannelList, Kind, Wait, Wake};
