@@ -1,0 +1,3 @@
+pub mod Reacting
+pub mod RingLaws
+pub mod Rings
