@@ -1,0 +1,70 @@
+//! Laws over all behaviours and all plans. `until` is the last time that is executed, in ticks, and
+//! `kept` the cut: a test on keys, and a write whose key does not pass it is counted and does not
+//! become pending.
+
+ghost use Rattle.std.specs.Prelude.{◌≡◌, ◌⊎◌, ℕ, ◌+◌, ◌<◌, ◌≤◌, Bool, Some, None};
+ghost use Rattle.event_order.specs.declared.key.Key.{Key as KeyValue};
+ghost use Rattle.event_order.specs.Order.{IsBefore};
+ghost use Rattle.event_order.specs.Pending.{Among};
+ghost use Rattle.event_machine.specs.Machine.{within, all_kept};
+ghost use Rattle.event_machine.specs.Run.{WrittenBefore, ExecutedWithin, Chain};
+ghost use Rattle.ssf_model.specs.declared.event.Event.{Event};
+ghost use Rattle.ssf_model.specs.declared.plan.Plan.{Plan};
+ghost use Rattle.ssf_model.specs.Run.{Fits, machine_of, opening, run_event, run_events, world_after};
+ghost use Rattle.ssf_model.specs.Drafts.{Draft, planned};
+ghost use Rattle.run_laws.specs.Joined.{IsWriteOf};
+ghost use Rattle.run_laws.specs.Openings.{OpensInOrder};
+
+use ssf_model::Behaviour;
+
+/// A plan that is well formed opens in order.
+pub fn fitting_plans_open<B: Behaviour>()
+    ensures { (b : B) (plan : Plan B B.State B.Payload) → Fits (B.valid b) (B.carried b) plan → OpensInOrder plan }
+{}
+
+/// A plan that a builder finishes opens in order.
+pub fn finished_plans_open<B: Behaviour>()
+    ensures { (d : Draft B B.State) → OpensInOrder {B = B} {S = B.State} {P = B.Payload} (planned d) }
+{}
+
+/// Keys rise strictly along a run.
+pub fn keys_rise<B: Behaviour>()
+    ensures { (b : B) (plan : Plan B B.State B.Payload) (until : ℕ) (kept : KeyValue → Bool) → OpensInOrder plan
+        → (n k : ℕ) (e d : Event B.Payload) → n < k → run_event (B.reaction b) plan until kept n ≡ Some e → run_event (B.reaction b) plan until kept k ≡ Some d
+        → IsBefore e.key d.key }
+{}
+
+/// Each event is one of the opening's or was written by an earlier event.
+pub fn events_arise<B: Behaviour>()
+    ensures { (b : B) (plan : Plan B B.State B.Payload) (until : ℕ) (kept : KeyValue → Bool) (n : ℕ) (e : Event B.Payload)
+        → run_event (B.reaction b) plan until kept n ≡ Some e
+        → Among e plan.events ⊎ WrittenBefore (machine_of (B.reaction b) plan.mappings) until kept (opening plan) n e }
+{}
+
+/// What is pending at some moment and in time is executed later, before the run ends.
+pub fn pending_is_executed<B: Behaviour>()
+    ensures { (b : B) (plan : Plan B B.State B.Payload) (until : ℕ) (kept : KeyValue → Bool) → OpensInOrder plan
+        → (n end : ℕ) (e : Event B.Payload) → n ≤ end → run_event (B.reaction b) plan until kept end ≡ None
+        → Among e (world_after (B.reaction b) plan until kept n).pending → e.key.time ≤ until
+        → ExecutedWithin (machine_of (B.reaction b) plan.mappings) until kept (opening plan) n end e }
+{}
+
+/// Before an event of round k stand k events at its time, one of each lower round, each of which
+/// wrote the next: a write that arrives at its own time is one on mappings without delay.
+pub fn rounds_are_chained<B: Behaviour>()
+    ensures { (b : B) (plan : Plan B B.State B.Payload) (until : ℕ) (kept : KeyValue → Bool) → OpensInOrder plan
+        → (n : ℕ) (e : Event B.Payload) → run_event (B.reaction b) plan until kept n ≡ Some e
+        → Chain (machine_of (B.reaction b) plan.mappings) until kept (opening plan) (IsWriteOf B (B.reaction b) plan.mappings) n e e.key.round }
+{}
+
+/// A run with a cut ends.
+pub fn cut_run_ends<B: Behaviour>()
+    ensures { (b : B) (plan : Plan B B.State B.Payload) (until R : ℕ) → OpensInOrder plan
+        → (n : ℕ) × (run_event (B.reaction b) plan until (within R) n ≡ None) }
+{}
+
+/// A cut at round R changes none of the first R + 1 events.
+pub fn cut_keeps_first<B: Behaviour>()
+    ensures { (b : B) (plan : Plan B B.State B.Payload) (until R : ℕ) → OpensInOrder plan
+        → (n : ℕ) → n ≤ R + 1 → run_events (B.reaction b) plan until (within R) n ≡ run_events (B.reaction b) plan until all_kept n }
+{}
