@@ -1,0 +1,178 @@
+-- One step of the list is one step of the run, and what holds along it.
+use Rattle.std.proofs.Common.{◌≡◌, ℕ, ◌+◌, ◌<◌, ◌≤◌, true, false, nat_le, List, [], ◌∷◌, ◌++◌, length, refl, sym, ap, ◌∙◌, subst, inl, inr, arith, Option, Some, None, is_some, slice_get, slice_set, add-one, option_map, length-append}
+use Rattle.std.specs.List.{flat_map}
+use Rattle.std.proofs.lemmas.Grind.{common_steps}
+use Rattle.event_order.specs.Pending.{put_all}
+use Rattle.event_order.proofs.Pending.{test_cases}
+use Rattle.event_machine.specs.Machine.{World, option_list, due, stepped, executed, after, event, all_kept}
+use Rattle.ssf_model.specs.declared.event.Event.{Event}
+use Rattle.ssf_model.specs.declared.event.Entry.{Entry}
+use Rattle.ssf_model.specs.declared.event.Line.{Line}
+use Rattle.ssf_model.specs.declared.out.Written.{Written}
+use Rattle.ssf_model.specs.declared.process.Process.{Process}
+use Rattle.ssf_model.specs.declared.entity.Entity.{Entity}
+use Rattle.ssf_model.specs.declared.plan.Mapping.{Mapping}
+use Rattle.ssf_model.specs.declared.plan.Plan.{Plan}
+use Rattle.ssf_model.specs.Reaction.{Reaction, Validity, KeepsValid, LatestTime}
+use Rattle.ssf_model.specs.Deliver.{IsModest}
+use Rattle.ssf_model.specs.Channels.{Sent, sent, delivered_to, entity_after, sent_by, counted}
+use Rattle.ssf_model.specs.Run.{States, counts_of, acts_at, writes_at, machine_of, opening}
+use Rattle.global_list.specs.Pending.{key_of}
+use Rattle.global_list.specs.Posting.{IsPosted}
+use Rattle.global_list.specs.Healthy.{IsHealthy}
+use Rattle.ssf_model.specs.Run.{entry_at, entries_from}
+use Rattle.global_list.specs.Executed.{MostEvents, states_of, world_of, MayExecute, MayGoOn, IsExecuted, IsOneMore}
+use Rattle.global_list.proofs.Healths.{keep_all, place_of, healthy_step, may_execute}
+
+le_true : (a b : ℕ) → nat_le a b ≡ true → a ≤ b
+le_true a b h = grind (arith, common_steps)
+
+-- the event that is due is the first
+pub record IsFirst {P : Type 0} (until : ℕ) (d e : Event P) : Type 0 where
+  pub same : d ≡ e
+  pub in_time : e.key.time ≤ until
+  pub test : nat_le e.key.time until ≡ true
+
+pub due_first : {P : Type 0} (until : ℕ) (d e : Event P) (ds : List (Event P)) → due key_of until (d ∷ ds) ≡ Some e → IsFirst until d e
+due_first until d e ds h = elim (test_cases (nat_le d.key.time until)) [
+  | inl t ↦ let g : Some d ≡ Some e = rw t at h in let s : d ≡ e = cc in
+      record { same = s; in_time = subst (λ (x : Event _). x.key.time ≤ until) s (le_true d.key.time until t); test = subst (λ (x : Event _). nat_le x.key.time until ≡ true) s t }
+  | inr f ↦ let g : None ≡ Some e = rw f at h in absurd (cc)
+]
+
+told_more : (told0 told1 : List Entry) (t : Entry) (i : ℕ) → told1 ≡ told0 ++ t ∷ [] → length told0 ≡ i → length told1 ≡ i + 1
+told_more told0 told1 t i h e = rw h (omega (arith, length-append told0 (t ∷ []), e))
+
+pub none_of : {T : Type 0} (o : Option T) → is_some o ≡ false → o ≡ None
+none_of None h = refl
+none_of (Some x) h = absurd (cc)
+
+module _ {B S P : Type 0} (r : Reaction S P) (ms : List Mapping) (until : ℕ) where
+  abbrev pub step_of : (x : States B S P) (e : Event P) (rest : List (Event P)) → World (States B S P) (Event P)
+  step_of x e rest = record { state = acts_at r ms x e (slice_get x.entities e.entity); pending = put_all key_of (writes_at r ms x e (slice_get x.entities e.entity)) rest }
+
+  executed_is : (x : States B S P) (e : Event P) (rest : List (Event P)) → executed (machine_of r ms) all_kept x e rest ≡ step_of x e rest
+  unfolding machine_of
+  executed_is x e rest = ap (λ (ws : List (Event P)). let v : World (States B S P) (Event P) = record { state = acts_at r ms x e (slice_get x.entities e.entity); pending = put_all key_of ws rest } in v)
+      (keep_all (writes_at r ms x e (slice_get x.entities e.entity)))
+
+  stepped_first : (x : States B S P) (e : Event P) (rest : List (Event P)) → nat_le e.key.time until ≡ true →
+      stepped (machine_of r ms) until all_kept x (e ∷ rest) ≡ executed (machine_of r ms) all_kept x e rest
+  unfolding machine_of
+  stepped_first x e rest t = rw t refl
+
+  -- a step where the first event is due
+  pub stepped_is : (x : States B S P) (ps : List (Event P)) (e : Event P) (rest : List (Event P)) → ps ≡ e ∷ rest → due key_of until ps ≡ Some e →
+      stepped (machine_of r ms) until all_kept x ps ≡ step_of x e rest
+  stepped_is x ps e rest is d =
+      let here : due key_of until (e ∷ rest) ≡ Some e = subst (λ qs. due key_of until qs ≡ Some e) is d in
+      ap (λ (qs : List (Event P)). stepped (machine_of r ms) until all_kept x qs) is ∙ (stepped_first x e rest (due_first until e e rest here).test ∙ executed_is x e rest)
+
+  -- what was executed is that step
+  pub executed_step : (es0 es1 : List (Entity B S P)) (c0 c1 : List ℕ) (p0 p1 rest : List (Event P)) (e : Event P) (told : Entry) → p0 ≡ e ∷ rest → due key_of until p0 ≡ Some e →
+      IsExecuted r ms e es0 c0 rest es1 c1 p1 told → world_of es1 c1 p1 ≡ stepped (machine_of r ms) until all_kept (states_of es0 c0) p0
+  executed_step es0 es1 c0 c1 p0 p1 rest e told is d q =
+      ap (λ (x : States B S P). let v : World (States B S P) (Event P) = record { state = x; pending = p1 } in v) q.state
+      ∙ (ap (λ (ps : List (Event P)). let v : World (States B S P) (Event P) = record { state = acts_at r ms (states_of es0 c0) e (slice_get es0 e.entity); pending = ps } in v) q.pending
+      ∙ sym (stepped_is (states_of es0 c0) p0 e rest is d))
+
+  module _ (valid : Validity S) (carried : P → Type 0) (law : KeepsValid valid carried r) (modest : IsModest valid carried r) (in_time : until ≤ LatestTime) where
+    step_healthy : (channels n : ℕ) (x : States B S P) (e : Event P) (rest : List (Event P)) → e.key.time ≤ until →
+        IsHealthy valid carried ms channels n (record { state = x; pending = e ∷ rest }) → IsHealthy valid carried ms channels (n + 1) (step_of x e rest)
+    step_healthy channels n x e rest t h =
+        let place = place_of x.entities e.entity ((h.pending e (inl refl)).entity) in
+        rw place.1 (healthy_step valid carried r law modest ms channels n x.entities x.counts e rest place.0 place.1 (omega (arith, t, in_time)) h)
+
+    pub stepped_healthy : (channels n : ℕ) (x : States B S P) (ps : List (Event P)) (e : Event P) → due key_of until ps ≡ Some e →
+        IsHealthy valid carried ms channels n (record { state = x; pending = ps }) →
+        IsHealthy valid carried ms channels (n + 1) (stepped (machine_of r ms) until all_kept x ps)
+    stepped_healthy channels n x [] e d h = absurd (cc)
+    stepped_healthy channels n x (b ∷ bs) e d h =
+        let f = due_first until b e bs d in
+        let is : b ∷ bs ≡ e ∷ bs = ap (λ c. c ∷ bs) f.same in
+        let g : IsHealthy valid carried ms channels n (record { state = x; pending = e ∷ bs }) =
+        subst (λ (c : Event P). IsHealthy valid carried ms channels n (record { state = x; pending = c ∷ bs })) f.same h in
+        rw (stepped_is x (b ∷ bs) e bs is d) (step_healthy channels n x e bs f.in_time g)
+
+    pub may_next : (es : List (Entity B S P)) (cs : List ℕ) (ps rest : List (Event P)) (e : Event P) → ps ≡ e ∷ rest → due key_of until ps ≡ Some e →
+        MayGoOn valid carried ms until es cs ps → MayExecute valid r ms e es cs rest
+    may_next es cs ps rest e is d go =
+        let h : IsHealthy valid carried ms (length cs) go.n (world_of es cs (e ∷ rest)) =
+        subst (λ (qs : List (Event P)). IsHealthy valid carried ms (length cs) go.n (world_of es cs qs)) is go.healthy in
+        let here : due key_of until (e ∷ rest) ≡ Some e = subst (λ qs. due key_of until qs ≡ Some e) is d in
+        let first = due_first until e e rest here in
+        let place = place_of es e.entity ((h.pending e (inl refl)).entity) in
+        may_execute valid carried r law modest ms (length cs) go.n es (counts_of cs) e rest place.0 place.1 (omega (arith, first.in_time, in_time)) h cs refl refl go.few
+
+  -- ---- the code's steps
+
+  same_states : (es es' : List (Entity B S P)) (f f' : ℕ → ℕ) → es ≡ es' → f ≡ f' →
+      (let x : States B S P = record { entities = es; counts = f } in x) ≡ (let x : States B S P = record { entities = es'; counts = f' } in x)
+  same_states es es' f f' a b = ap (λ (xs : List (Entity B S P)). let x : States B S P = record { entities = xs; counts = f } in x) a
+      ∙ ap (λ (h : ℕ → ℕ). let x : States B S P = record { entities = es'; counts = h } in x) b
+
+  pub executed_by : (e : Event P) (es0 : List (Entity B S P)) (en en1 : Entity B S P) (c0 c1 : List ℕ) (p0 p1 : List (Event P)) (ps : List Process) (ws : List (Written P)) (ls : List Line) →
+      slice_get es0 e.entity ≡ Some en → en1 ≡ entity_after (delivered_to r e en) en → ps ≡ en1.processes → ws ≡ (delivered_to r e en).writes → ls ≡ (delivered_to r e en).lines →
+      IsPosted e.key (flat_map (sent ms e.entity ps) ws) c0 p0 c1 p1 →
+      IsExecuted r ms e es0 c0 p0 (slice_set es0 e.entity en1) c1 p1 (record { key = e.key; entity = e.entity; lines = ls })
+  executed_by e es0 en en1 c0 c1 p0 p1 ps ws ls at after_is ps_is ws_is ls_is posted =
+      let d = delivered_to r e en in
+      let processes : ps ≡ d.processes = ps_is ∙ ap (λ (x : Entity B S P). x.processes) after_is in
+      let sents : flat_map (sent ms e.entity ps) ws ≡ sent_by r ms e en =
+      ap (λ (qs : List Process). flat_map (sent ms e.entity qs) ws) processes ∙ ap (λ (vs : List (Written P)). flat_map (sent ms e.entity d.processes) vs) ws_is in
+      let q : IsPosted e.key (sent_by r ms e en) c0 p0 c1 p1 = subst (λ (ss : List (Sent P)). IsPosted e.key ss c0 p0 c1 p1) sents posted in
+      record {
+        state = rw at (same_states (slice_set es0 e.entity en1) (slice_set es0 e.entity (entity_after d en)) (counts_of c1) (counted (counts_of c0) (sent_by r ms e en))
+            (ap (λ (x : Entity B S P). slice_set es0 e.entity x) after_is) q.counts);
+        pending = rw at q.pending;
+        entry = rw at (ap (λ (xs : List Line). let t : Entry = record { key = e.key; entity = e.entity; lines = xs } in t) ls_is);
+        size = q.size;
+      }
+
+  -- ---- the loop
+
+  -- after i events from the world w on
+  pub record Running (valid : Validity S) (carried : P → Type 0) (w : World (States B S P) (Event P)) (i : ℕ) (es : List (Entity B S P)) (cs : List ℕ) (ps : List (Event P)) (told : List Entry) : Type 0 where
+    pub world : world_of es cs ps ≡ after (machine_of r ms) until all_kept w i
+    pub healthy : IsHealthy valid carried ms (length cs) i (world_of es cs ps)
+    pub entries : told ≡ entries_from r ms until all_kept w i
+    pub count : length told ≡ i
+
+  due_is : (v : World (States B S P) (Event P)) → due (machine_of {B = B} r ms).key until v.pending ≡ due key_of until v.pending
+  unfolding machine_of
+  due_is v = refl
+
+  pub event_is : (w : World (States B S P) (Event P)) (i : ℕ) (es : List (Entity B S P)) (cs : List ℕ) (ps : List (Event P)) →
+      world_of es cs ps ≡ after (machine_of r ms) until all_kept w i → event (machine_of r ms) until all_kept w i ≡ due key_of until ps
+  event_is w i es cs ps h = due_is (after (machine_of r ms) until all_kept w i) ∙ ap (λ (v : World (States B S P) (Event P)). due key_of until v.pending) (sym h)
+
+  pub running_first : (valid : Validity S) (carried : P → Type 0) (es : List (Entity B S P)) (cs : List ℕ) (ps : List (Event P)) (told : List Entry) →
+      IsHealthy valid carried ms (length cs) 0 (world_of es cs ps) → told ≡ [] → Running valid carried (world_of es cs ps) 0 es cs ps told
+  running_first valid carried es cs ps told h e = record { world = refl; healthy = h; entries = e; count = rw e refl }
+
+  pub running_opened : (valid : Validity S) (carried : P → Type 0) (plan : Plan B S P) (es : List (Entity B S P)) (cs : List ℕ) (ps : List (Event P)) (told : List Entry) →
+      IsHealthy valid carried ms (length plan.counts) 0 (opening plan) → es ≡ plan.entities → cs ≡ plan.counts → ps ≡ plan.events → told ≡ [] →
+      Running valid carried (opening plan) 0 es cs ps told
+  running_opened valid carried plan es cs ps told h a b c e =
+      rw (a, b, c) (running_first valid carried plan.entities plan.counts plan.events told h e)
+
+  pub may_go : (valid : Validity S) (carried : P → Type 0) (in_time : until ≤ LatestTime) (w : World (States B S P) (Event P)) (i : ℕ) (es : List (Entity B S P)) (cs : List ℕ) (ps : List (Event P)) (told : List Entry) →
+      i < MostEvents → Running valid carried w i es cs ps told → MayGoOn valid carried ms until es cs ps
+  may_go valid carried in_time w i es cs ps told few s = record { n = i; few = few; until = in_time; healthy = s.healthy }
+
+  pub running_next : (valid : Validity S) (carried : P → Type 0) (law : KeepsValid valid carried r) (modest : IsModest valid carried r) (in_time : until ≤ LatestTime)
+      (w : World (States B S P) (Event P)) (i : ℕ) (es0 es1 : List (Entity B S P)) (c0 c1 : List ℕ) (p0 p1 : List (Event P)) (told0 told1 : List Entry) →
+      Running valid carried w i es0 c0 p0 told0 → IsOneMore r ms until (world_of es0 c0 p0) (world_of es1 c1 p1) told0 told1 → length c1 ≡ length c0 →
+      Running valid carried w (i + 1) es1 c1 p1 told1
+  running_next valid carried law modest in_time w i es0 es1 c0 c1 p0 p1 told0 told1 s q size =
+      let v = after (machine_of r ms) until all_kept w i in
+      let here : world_of es0 c0 p0 ≡ v = s.world in
+      record {
+        world = rw add-one (q.world ∙ ap (λ (x : World (States B S P) (Event P)). stepped (machine_of r ms) until all_kept x.state x.pending) here);
+        healthy = rw (size, q.world) (stepped_healthy valid carried law modest in_time (length c0) i (states_of es0 c0) p0 q.event q.is_due s.healthy);
+        entries = rw add-one (q.entries ∙ (ap (λ (ts : List Entry). ts ++ entry_at r es0 q.event ∷ []) s.entries
+            ∙ sym (ap (λ (o : Option Entry). entries_from r ms until all_kept w i ++ option_list o)
+            (ap (λ (o : Option (Event P)). option_map (entry_at r v.state.entities) o) (event_is w i es0 c0 p0 here ∙ q.is_due)
+            ∙ ap (λ (x : World (States B S P) (Event P)). Some (entry_at r x.state.entities q.event)) (sym here)))));
+        count = told_more told0 told1 (entry_at r es0 q.event) i q.entries s.count;
+      }

@@ -1,0 +1,9 @@
+pub mod Keyed
+pub mod Posts
+pub mod Delivers
+pub mod FanOuts
+pub mod Sends
+pub mod Healths
+pub mod Cuts
+pub mod Going
+pub mod Fitting
