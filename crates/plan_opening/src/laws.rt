@@ -1,0 +1,35 @@
+//! Laws over every plan. Each function's contract is a law, and its body is empty.
+ghost use Rattle.std.specs.Prelude.{◌≡◌, ◌<◌, ◌≤◌, ℕ, List, All, length, None, suc};
+ghost use Rattle.event_machine.specs.Machine.{within};
+ghost use Rattle.ssf_model.specs.declared.event.Entry.{Entry};
+ghost use Rattle.ssf_model.specs.declared.plan.Plan.{Plan};
+ghost use Rattle.ssf_model.specs.Reaction.{Each, LatestTime};
+ghost use Rattle.ssf_model.specs.Drafts.{Draft, IsValidDraft, planned};
+ghost use Rattle.ring_model.specs.declared.ring.Ring.{Ring};
+ghost use Rattle.ring_model.specs.declared.ring.RingPayload.{RingPayload};
+ghost use Rattle.ring_model.specs.declared.ring.Hop.{Hop};
+ghost use Rattle.ring_model.specs.Reacting.{IsRing, AnyPayload};
+ghost use Rattle.ring_model.specs.Rings.{ring_draft, with_hops, ring_refusal};
+ghost use Rattle.global_list.specs.Entries.{run_entries};
+ghost use Rattle.global_list.specs.Healthy.{IsRunnable};
+ghost use Rattle.plan_opening.specs.Placed.{IsWhole};
+
+use ssf_model::Behaviour;
+
+/// The plan of a whole draft can be run.
+pub fn whole_drafts_can_run<B: Behaviour>()
+    ensures { (b : B) (timed : ℕ) (draft : Draft B B.State) → IsWhole (B.valid b) timed draft → IsRunnable (B.valid b) (B.carried b) (planned {P = B.Payload} draft) }
+{}
+
+/// The plan of a ring that was not refused can be run.
+pub fn rings_can_run()
+    ensures { (ring : Ring) (nodes : ℕ) (tokens : List ℕ) (hops : List Hop) → All (λ (h : Hop). (h.from < nodes) × (h.to < nodes)) hops
+        → ring_refusal ring nodes tokens hops ≡ None → Each (IsValidDraft IsRing) (with_hops (ring_draft ring nodes tokens) hops).entities
+        → IsRunnable IsRing AnyPayload (planned {P = RingPayload} (with_hops (ring_draft ring nodes tokens) hops)) }
+{}
+
+/// The entries of a run are of the plan's entities.
+pub fn entries_have_entities<B: Behaviour>()
+    ensures { (b : B) (plan : Plan B B.State B.Payload) (until R n : ℕ) → until ≤ LatestTime → IsRunnable (B.valid b) (B.carried b) plan → n ≤ suc R
+        → All (λ (e : Entry). e.entity < length plan.entities) (run_entries (B.reaction b) plan until (within R) n) }
+{}
