@@ -1,0 +1,7 @@
+//! Small models that are run by the one event list: rings, and two entities with timers. The worked
+//! examples are tests.
+#![tactic(auto)]
+
+pub mod rings;
+#[cfg(test)]
+mod tests;
