@@ -1,0 +1,9 @@
+pub mod ChainLemmas
+pub mod NodeLemmas
+pub mod WalkLemmas
+pub mod PlaceLemmas
+pub mod LinkLemmas
+pub mod RelinkLemmas
+pub mod SearchLemmas
+pub mod StoreLemmas
+pub mod QueueLemmas

@@ -1,0 +1,4 @@
+pub mod Chains
+pub mod Nodes
+pub mod Store
+pub mod Queue
