@@ -1,0 +1,3 @@
+pub mod OneSplit
+pub mod Runs
+pub mod Walked

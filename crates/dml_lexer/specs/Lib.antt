@@ -1,0 +1,2 @@
+pub mod FirstFront
+pub mod Tokens

@@ -1,0 +1,60 @@
+//! Spans and faults of worked texts.
+use crate::{LexFault, Token, TokenKind, lex};
+use std::test::Fail;
+
+#[test]
+fn tokens_have_their_spans(rt: HostRuntime) -> Result<(), Fail> {
+    use TokenKind::{LeftBracket, Quoted, RightBracket, Word};
+    let rows: [(&[u8], &[(TokenKind, u32, u32)]); 8] = [
+        (b"", &[]),
+        (b" \t\r\n#x\n#y", &[]),
+        (
+            b"a[b]",
+            &[
+                (Word, 0, 1),
+                (LeftBracket, 1, 2),
+                (Word, 2, 3),
+                (RightBracket, 3, 4),
+            ],
+        ),
+        (
+            b"ab\"c d\"e#f",
+            &[(Word, 0, 2), (Quoted, 2, 7), (Word, 7, 8)],
+        ),
+        (b"\"\"", &[(Quoted, 0, 2)]),
+        (b"# a\rb\nc\r\nd", &[(Word, 6, 7), (Word, 9, 10)]),
+        (
+            b"\"[#]\n\x01\" \xc3\xa9~!",
+            &[(Quoted, 0, 7), (Word, 8, 12)],
+        ),
+        (b"_find .a.b", &[(Word, 0, 5), (Word, 6, 10)]),
+    ];
+    for (bytes, wanted) in rows {
+        let tokens = lex(rt.alloc(), bytes)?;
+        assert_eq!(rt; tokens.len(), wanted.len(), "{bytes:?}");
+        for (token, (kind, from, to)) in tokens.as_slice().iter().zip(wanted) {
+            let wanted = Token {
+                kind: *kind,
+                from: *from,
+                to: *to,
+            };
+            assert_eq!(rt; *token, wanted, "{bytes:?}");
+        }
+    }
+    Ok(())
+}
+
+#[test]
+fn the_first_fault_is_answered(rt: HostRuntime) {
+    let rows: [(&[u8], LexFault); 6] = [
+        (b"\x01", LexFault::BadByte(0)),
+        (b"a\x7f\"", LexFault::BadByte(1)),
+        (b"a \"x", LexFault::OpenQuote(2)),
+        (b"\"a\"\"\x01", LexFault::OpenQuote(3)),
+        (b"# \x01\x00\n\x0b", LexFault::BadByte(5)),
+        (b"a\x00b \"", LexFault::BadByte(1)),
+    ];
+    for (bytes, fault) in rows {
+        assert_eq!(rt; lex(rt.alloc(), bytes).err(), Some(fault), "{bytes:?}");
+    }
+}
