@@ -1,0 +1,10 @@
+pub mod Attributes
+pub mod AttributesCode
+pub mod Building
+pub mod Grammar
+pub mod Printing
+pub mod Reading
+pub mod SameTree
+pub mod SameTreeLaws
+pub mod TreeFalls
+pub mod TreeView

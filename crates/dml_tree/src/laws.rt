@@ -1,0 +1,27 @@
+//! Laws of the grammar: what holds of every list of tokens and of every file, whatever code reads them.
+ghost use Rattle.std.specs.Prelude.{◌≡◌, ℕ, List, Result};
+ghost use Rattle.dml_lexer.specs.declared.lexer.Token.{Token};
+ghost use Rattle.dml_tree.specs.Attributes.{Attributes};
+ghost use Rattle.dml_tree.specs.declared.reading.TreeFault.{TreeFault};
+ghost use Rattle.dml_tree.specs.Grammar.{Spells, Faulted};
+ghost use Rattle.dml_tree.specs.Reading.{Reads};
+
+/// A list of tokens spells at most one tree.
+pub fn one_tree()
+    ensures { (file : ℕ) (bytes : List ℕ) (tokens : List Token) (tree other : Attributes) → Spells file bytes 0 tokens tree → Spells file bytes 0 tokens other → tree ≡ other }
+{}
+
+/// Tokens that spell a tree have no fault.
+pub fn no_fault()
+    ensures { (file : ℕ) (bytes : List ℕ) (tokens : List Token) (tree : Attributes) (fault : TreeFault) → Spells file bytes 0 tokens tree → ¬ (Faulted file bytes tokens fault) }
+{}
+
+/// A list of tokens has at most one fault.
+pub fn one_fault()
+    ensures { (file : ℕ) (bytes : List ℕ) (tokens : List Token) (fault other : TreeFault) → Faulted file bytes tokens fault → Faulted file bytes tokens other → fault ≡ other }
+{}
+
+/// The bytes of a file have at most one meaning: one tree, or one fault.
+pub fn one_meaning()
+    ensures { (file : ℕ) (bytes : List ℕ) (meaning other : Result Attributes TreeFault) → Reads file bytes meaning → Reads file bytes other → meaning ≡ other }
+{}
