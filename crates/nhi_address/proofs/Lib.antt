@@ -1,0 +1,4 @@
+pub mod Digits
+pub mod NhiTexts
+pub mod Reading
+pub mod Worked

@@ -1,0 +1,6 @@
+-- A text that grew at its end.
+use Rattle.std.specs.Prelude.{ℕ, ◌≡◌, List, ◌++◌}
+
+-- the new text has the old one at its beginning
+abbrev pub Extends : List ℕ → List ℕ → Type 0
+Extends old new = (more : List ℕ) × (new ≡ old ++ more)

@@ -1,0 +1,4 @@
+pub mod Extends
+pub mod NhiFields
+pub mod NhiText
+pub mod Number
