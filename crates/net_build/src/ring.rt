@@ -1,0 +1,205 @@
+//! The plan of a ring.
+ghost use Rattle.std.specs.Prelude.{◌≡◌, ◌≤◌, ◌<◌, ◌⊎◌, false, [], length, map, replicate, codes, decimal, Some, None, Ok, Err, IfOk, IfErr, IsTrue, ◌↔◌};
+ghost use Rattle.std.specs.List.{All, list_any, range_with_len};
+ghost use Rattle.dml_tree.specs.TreeView.{attributes};
+ghost use Rattle.net_graph.specs.Keys.{values_of, lists_of, first_of, has_net};
+ghost use Rattle.ring_model.specs.Reacting.{IsRing, AnyPayload};
+ghost use Rattle.global_list.specs.Healthy.{IsRunnable};
+ghost use Rattle.net_build.specs.RingModel.{first_number, absent_number, tokens_in, hops_in, hop_of, is_long, build, ring_plan_of, HasFewTokens};
+
+use crate::Built;
+use dml_tree::{Tree, Value};
+use net_graph::{ShapeFault, first_list, first_value, has_key, missing, number_in};
+use ring_model::{Hop, Ring, ring_builder};
+use sim_base::{ListOf, Memory, Text, push_number};
+use ssf_model::{BuildFault, LONGEST_DELAY, Names};
+use std::alloc::Global;
+
+/// The number of nodes is below this.
+const NODES_END: u64 = 65_537;
+
+/// A delay has at most 18 digits, so it is below this.
+const DELAY_END: u64 = 1_000_000_000_000_000_000;
+
+/// The most tokens of a ring.
+pub const MOST_TOKENS: usize = 4_194_304;
+
+/// A priority is below this.
+const PRIORITY_END: u64 = 256;
+
+/// The plan of the ring that is the model of a tree. Its entities are the nodes, named by their
+/// decimal numbers, and all of them share Net 0.
+///
+/// # Errors
+/// `NoModel` where there is no list `ring`; then the first fault of its keys: `nodes`, each
+/// `token`, and for each `hop` its `from`, `to`, `delay` and `priority`, where a key that has to
+/// stand and does not is `Missing`, and a value that is no number in its range, `BadNumber`; then
+/// `DelayTooLong` where a hop's delay is above 10^15 ticks; then `TooManyChannels`; `Memory`.
+pub fn ring_plan(alloc: Global, tree: &Tree) -> Result<Built<Ring>, ShapeFault>
+    requires model { has_net (attributes tree.now) ≡ false }
+    requires few { HasFewTokens (attributes tree.now) }
+    ensures built { IfOk result (λ built. ring_plan_of (attributes tree.now) ≡ Ok built) }
+    ensures runnable { IfOk result (λ built. IsRunnable IsRing AnyPayload built.plan) }
+    ensures named { IfOk result (λ built. length built.names.names ≡ length built.plan.entities) }
+    ensures cause { IfErr result (λ fault. (fault ≡ ShapeFault.Memory) ⊎ (ring_plan_of (attributes tree.now) ≡ Err fault)) }
+{
+    let Some(ring) = first_list(tree, b"ring") else {
+        return Err(ShapeFault::NoModel);
+    };
+    let nodes = number(alloc, ring, b"nodes", NODES_END, None)? as u32;
+    let tokens = read_tokens(alloc, ring, nodes)?;
+    let hops = read_hops(alloc, ring, nodes)?;
+    build_ring(alloc, nodes, tokens.as_slice(), hops.as_slice())
+}
+
+/// Whether the ring of a tree has at most `MOST_TOKENS` tokens, as `ring_plan` wants it; so has a
+/// tree without a ring.
+pub fn has_few_tokens(tree: &Tree) -> bool
+    ensures { IsTrue result ↔ HasFewTokens (attributes tree.now) }
+{
+    match first_list(tree, b"ring") {
+        Some(ring) => count_values(ring, b"token") <= MOST_TOKENS,
+        None => true,
+    }
+}
+
+/// How many attributes have this key.
+fn count_values(tree: &Tree, key: &[u8]) -> usize
+    ensures { result ≡ length (values_of key.now (attributes tree.now)) }
+{
+    let mut count = 0;
+    for attribute in tree.attributes() {
+        if has_key(attribute, key) {
+            count += 1;
+        }
+    }
+    count
+}
+
+/// The plan of a ring with these nodes, tokens and hops.
+fn build_ring(
+    alloc: Global,
+    nodes: u32,
+    tokens: &[u32],
+    hops: &[Hop],
+) -> Result<Built<Ring>, ShapeFault>
+    requires nodes { nodes ≤ 65536 }
+    requires tokens { All (λ t. t < nodes) tokens.now }
+    requires few { length tokens.now ≤ 4194304 }
+    requires hops { All (λ h. (h.from < nodes) × (h.to < nodes)) hops.now }
+    ensures built { IfOk result (λ built. build (record { nodes = nodes; tokens = tokens.now; hops = hops.now }) ≡ Ok built) }
+    ensures runnable { IfOk result (λ built. IsRunnable IsRing AnyPayload built.plan) }
+    ensures named { IfOk result (λ built. length built.names.names ≡ length built.plan.entities) }
+    ensures cause { IfErr result (λ fault. (fault ≡ ShapeFault.Memory) ⊎ (build (record { nodes = nodes; tokens = tokens.now; hops = hops.now }) ≡ Err fault)) }
+{
+    if has_long_delay(hops) {
+        return Err(ShapeFault::DelayTooLong);
+    }
+    let builder = match ring_builder(alloc, nodes, tokens, hops) {
+        Ok(builder) => builder,
+        Err(BuildFault::TooManyChannels) => return Err(ShapeFault::TooManyChannels),
+        Err(_) => return Err(ShapeFault::Memory),
+    };
+    let plan = builder.finish()?;
+    let names = node_names(alloc, nodes)?;
+    let nets = one_net(alloc, nodes)?;
+    Ok(Built { plan, names, nets })
+}
+
+/// Whether a hop has a delay above the longest one.
+fn has_long_delay(hops: &[Hop]) -> bool
+    ensures { result ≡ list_any is_long hops.now }
+{
+    hops.iter().any(|hop| hop.delay > LONGEST_DELAY)
+}
+
+/// The whole number of the first attribute with this key, below `end`; without one the default.
+fn number(
+    alloc: Global,
+    tree: &Tree,
+    key: &[u8],
+    end: u64,
+    default: Option<u64>,
+) -> Result<u64, ShapeFault>
+    ensures read { IfOk result (λ n. first_number key.now end (absent_number key.now default) (values_of key.now (attributes tree.now)) ≡ Ok n) }
+    ensures cause { IfErr result (λ fault. (fault ≡ ShapeFault.Memory) ⊎ (first_number key.now end (absent_number key.now default) (values_of key.now (attributes tree.now)) ≡ Err fault)) }
+{
+    match (first_value(tree, key), default) {
+        (Some(value), _) => number_in(alloc, key, value, 0, end),
+        (None, Some(default)) => Ok(default),
+        (None, None) => Err(missing(alloc, key)),
+    }
+}
+
+/// The nodes that the attributes `token` name, in their order.
+fn read_tokens(alloc: Global, ring: &Tree, nodes: u32) -> Result<Vec<u32>, ShapeFault>
+    ensures read { IfOk result (λ tokens. tokens_in nodes (attributes ring.now) ≡ Ok tokens.items) }
+    ensures cause { IfErr result (λ fault. (fault ≡ ShapeFault.Memory) ⊎ (tokens_in nodes (attributes ring.now) ≡ Err fault)) }
+{
+    let mut tokens = Vec::new(alloc);
+    for attribute in ring.attributes() {
+        if has_key(attribute, b"token") {
+            let token = number_in(alloc, b"token", &attribute.value, 0, u64::from(nodes))?;
+            tokens.push(token as u32)?;
+        }
+    }
+    Ok(tokens)
+}
+
+/// The hops that the lists `hop` describe, in their order.
+fn read_hops(alloc: Global, ring: &Tree, nodes: u32) -> Result<Vec<Hop>, ShapeFault>
+    ensures read { IfOk result (λ hops. hops_in nodes (attributes ring.now) ≡ Ok hops.items) }
+    ensures cause { IfErr result (λ fault. (fault ≡ ShapeFault.Memory) ⊎ (hops_in nodes (attributes ring.now) ≡ Err fault)) }
+{
+    let mut hops = Vec::new(alloc);
+    for attribute in ring.attributes() {
+        if has_key(attribute, b"hop") {
+            if let Value::List(hop) = &attribute.value {
+                hops.push(read_hop(alloc, hop, nodes)?)?;
+            }
+        }
+    }
+    Ok(hops)
+}
+
+/// The hop that these attributes describe.
+fn read_hop(alloc: Global, hop: &Tree, nodes: u32) -> Result<Hop, ShapeFault>
+    ensures read { IfOk result (λ read. hop_of nodes (attributes hop.now) ≡ Ok read) }
+    ensures cause { IfErr result (λ fault. (fault ≡ ShapeFault.Memory) ⊎ (hop_of nodes (attributes hop.now) ≡ Err fault)) }
+{
+    let from = number(alloc, hop, b"from", u64::from(nodes), None)? as u32;
+    let to = number(alloc, hop, b"to", u64::from(nodes), None)? as u32;
+    let delay = number(alloc, hop, b"delay", DELAY_END, None)?;
+    let priority = number(alloc, hop, b"priority", PRIORITY_END, Some(0))? as u8;
+    Ok(Hop {
+        from,
+        to,
+        delay,
+        priority,
+    })
+}
+
+/// The decimal numbers of the nodes.
+fn node_names(alloc: Global, nodes: u32) -> Result<Names, Memory>
+    ensures { IfOk result (λ names. names.names ≡ map decimal (range_with_len 0 nodes)) }
+{
+    let mut names = Vec::new(alloc);
+    for node in 0..nodes {
+        let mut name = Vec::new(alloc);
+        push_number(&mut name, u64::from(node))?;
+        names.push(Text::from_vec(name))?;
+    }
+    Ok(Names::new(names))
+}
+
+/// Net 0 for each node.
+#[tactic(auto, using(std::proofs::lemmas::List::replicate_more))]
+fn one_net(alloc: Global, nodes: u32) -> Result<ListOf<u32>, Memory>
+    ensures { IfOk result (λ nets. nets ≡ replicate nodes 0) }
+{
+    let mut nets = Vec::new(alloc);
+    for _ in 0..nodes {
+        nets.push(0u32)?;
+    }
+    Ok(ListOf::from_vec(nets))
+}

@@ -1,0 +1,169 @@
+use crate::{has_few_tokens, ring_plan};
+use dml_tree::read;
+use net_graph::{is_net, ShapeFault};
+use std::alloc::Global;
+use std::process::Abort;
+use std::test::Fail;
+
+/// What `ring_plan` answers on a text: `ok` with the numbers of entities and mappings, or the
+/// fault's name and its detail.
+fn answer(rt: &(impl Abort + AllocGlobal), text: &[u8]) -> Result<String, Fail> {
+    let alloc = rt.alloc();
+    let tree = read(alloc, 0, text)?;
+    assert!(rt; !is_net(&tree));
+    assert!(rt; has_few_tokens(&tree));
+    match ring_plan(alloc, &tree) {
+        Ok(built) => {
+            let entities = built.plan.entities.len();
+            let mappings = built.plan.mappings.len();
+            let line = format!(in alloc; "ok {entities} {mappings}")?;
+            Ok(line)
+        }
+        Err(fault) => fault_line(alloc, fault),
+    }
+}
+
+/// A fault's name and its detail.
+fn fault_line(alloc: Global, fault: ShapeFault) -> Result<String, Fail> {
+    match fault {
+        ShapeFault::NoModel => named(alloc, "NoModel", b""),
+        ShapeFault::BadNumber(key) => named(alloc, "BadNumber ", key.as_bytes()),
+        ShapeFault::Missing(key) => named(alloc, "Missing ", key.as_bytes()),
+        ShapeFault::DelayTooLong => named(alloc, "DelayTooLong", b""),
+        ShapeFault::TooManyChannels => named(alloc, "TooManyChannels", b""),
+        _other => named(alloc, "another", b""),
+    }
+}
+
+/// A name and the ASCII text behind it.
+fn named(alloc: Global, name: &str, detail: &[u8]) -> Result<String, Fail> {
+    let mut line = String::from_str(alloc, name)?;
+    for byte in detail {
+        line.push(char::from(*byte))?;
+    }
+    Ok(line)
+}
+
+#[test]
+fn keys_are_checked_in_their_order(rt: HostRuntime) -> Result<(), Fail> {
+    let rows = [
+        (b"a 1".as_slice(), "NoModel"),
+        (b"ring x", "NoModel"),
+        (b"ring [ ]", "Missing nodes"),
+        (b"ring x ring [ nodes 0 ]", "ok 0 0"),
+        (b"ring [ nodes 65536 ]", "ok 65536 0"),
+        (b"ring [ nodes 65537 ]", "BadNumber nodes"),
+        (b"ring [ nodes [ ] ]", "BadNumber nodes"),
+        (b"ring [ nodes x ]", "BadNumber nodes"),
+        (b"ring [ nodes 2 nodes x token 0 ]", "ok 2 0"),
+        (b"ring [ nodes 0 token 0 ]", "BadNumber token"),
+        (b"ring [ nodes 2 token 2 ]", "BadNumber token"),
+        (b"ring [ nodes 2 token 1 token [ ] ]", "BadNumber token"),
+        (b"ring [ nodes 2 token 1 token 1 hop x ]", "ok 2 0"),
+        (b"ring [ nodes 2 hop [ ] ]", "Missing from"),
+        (b"ring [ nodes 2 hop [ from 2 ] ]", "BadNumber from"),
+        (b"ring [ nodes 2 hop [ from [ ] ] ]", "BadNumber from"),
+        (b"ring [ nodes 2 hop [ from 1 ] ]", "Missing to"),
+        (b"ring [ nodes 2 hop [ from 1 to 2 ] ]", "BadNumber to"),
+        (b"ring [ nodes 2 hop [ from 1 to [ ] ] ]", "BadNumber to"),
+        (b"ring [ nodes 2 hop [ from 1 to 0 ] ]", "Missing delay"),
+        (
+            b"ring [ nodes 2 hop [ from 1 to 0 delay 1.5 ] ]",
+            "BadNumber delay",
+        ),
+        (
+            b"ring [ nodes 2 hop [ from 1 to 0 delay [ ] ] ]",
+            "BadNumber delay",
+        ),
+        (
+            b"ring [ nodes 2 hop [ from 1 to 0 delay 1000000000000000000 ] ]",
+            "BadNumber delay",
+        ),
+        (
+            b"ring [ nodes 2 hop [ from 1 to 0 delay 999999999999999999 ] ]",
+            "DelayTooLong",
+        ),
+        (
+            b"ring [ nodes 2 hop [ from 1 to 0 delay 1000000000000001 ] ]",
+            "DelayTooLong",
+        ),
+        (
+            b"ring [ nodes 2 hop [ from 1 to 0 delay 1000000000000000 ] ]",
+            "ok 2 1",
+        ),
+        (
+            b"ring [ nodes 2 hop [ from 1 to 0 delay 0 priority 255 ] ]",
+            "ok 2 1",
+        ),
+        (
+            b"ring [ nodes 2 hop [ from 1 to 0 delay 0 priority 256 ] ]",
+            "BadNumber priority",
+        ),
+        (
+            b"ring [ nodes 2 hop [ from 1 to 0 delay 0 priority [ ] ] ]",
+            "BadNumber priority",
+        ),
+        // Pairs of faults.
+        (b"ring [ hop [ ] token 9 nodes 65537 ]", "BadNumber nodes"),
+        (b"ring [ hop [ ] token 9 nodes 2 ]", "BadNumber token"),
+        (
+            b"ring [ hop [ ] token 9 nodes 2 ] ring [ nodes 0 ]",
+            "BadNumber token",
+        ),
+        (
+            b"ring [ nodes 2 hop [ priority 256 delay x from 0 ] ]",
+            "Missing to",
+        ),
+        (
+            b"ring [ nodes 2 hop [ priority 256 delay x to 0 from 0 ] ]",
+            "BadNumber delay",
+        ),
+        (
+            b"ring [ nodes 2 hop [ priority 256 delay 1000000000000001 to 0 from 0 ] ]",
+            "BadNumber priority",
+        ),
+        (
+            b"ring [ nodes 2 hop [ from 0 to 0 delay 1000000000000001 ] hop [ ] ]",
+            "Missing from",
+        ),
+        (
+            b"ring [ hop [ from 0 to 0 delay 1000000000000001 ] token 1 nodes 1 ]",
+            "BadNumber token",
+        ),
+    ];
+    for (text, wanted) in rows {
+        assert_eq!(rt; answer(&rt, text)?.as_str(), wanted);
+    }
+    Ok(())
+}
+
+#[test]
+fn nodes_hops_names_and_nets_are_as_written(rt: HostRuntime) -> Result<(), Fail> {
+    let text =
+        b"ring [ nodes 2 token 1 token 0 token 1 hop [ from 0 to 1 delay 5 ] hop [ to 0 priority 7 from 1 delay 3 ] ]";
+    let tree = read(rt.alloc(), 0, text)?;
+    assert!(rt; !is_net(&tree));
+    assert!(rt; has_few_tokens(&tree));
+    let Ok(built) = ring_plan(rt.alloc(), &tree) else {
+        return Err(Fail::from("refused"));
+    };
+    assert_eq!(rt; built.plan.entities.len(), 2);
+    assert_eq!(rt; built.plan.entities.as_slice()[0].state.tokens, 1);
+    assert_eq!(rt; built.plan.entities.as_slice()[1].state.tokens, 2);
+    let mappings = built.plan.mappings();
+    assert_eq!(rt; mappings.len(), 2);
+    assert_eq!(rt;
+        (mappings[0].channel, mappings[0].from, mappings[0].to),
+        (2, 0, 1)
+    );
+    assert_eq!(rt; (mappings[0].delay, mappings[0].priority), (5, 0));
+    assert_eq!(rt;
+        (mappings[1].channel, mappings[1].from, mappings[1].to),
+        (3, 1, 0)
+    );
+    assert_eq!(rt; (mappings[1].delay, mappings[1].priority), (3, 7));
+    assert_eq!(rt; built.names.name(0), b"0".as_slice());
+    assert_eq!(rt; built.names.name(1), b"1".as_slice());
+    assert_eq!(rt; built.nets.as_slice(), [0, 0].as_slice());
+    Ok(())
+}
