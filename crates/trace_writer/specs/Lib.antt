@@ -1,0 +1,5 @@
+pub mod Fields
+pub mod Report
+pub mod Tallying
+pub mod Trace
+pub mod Words
