@@ -1,0 +1,11 @@
+pub mod Examples
+pub mod Exponents
+pub mod Sums
+pub mod Bases
+pub mod Nested
+pub mod Layouts
+pub mod Placing
+pub mod Turns
+pub mod Listing
+pub mod Outcomes
+pub mod Adding

@@ -1,0 +1,46 @@
+-- What holds between the blocks of links and Nets, and between the addresses of attachments.
+use Rattle.std.specs.Prelude.{ℕ, ◌≡◌, ◌+◌, ◌-◌, ◌^◌, ◌<◌, ◌≤◌, List, ◌++◌, length, slice_index_or, AllPairs, EachIndex, ◌⊎◌}
+use Rattle.ip_blocks.specs.declared.block.Block.{Block}
+use Rattle.ip_blocks.specs.declared.layout.LinkSize.{LinkSize}
+use Rattle.ip_blocks.specs.Blocks.{block_end, BlockLists}
+
+abbrev pub IsWithin : Block → Block → Type 0
+IsWithin inner outer = (outer.base ≤ inner.base) × (block_end inner ≤ block_end outer)
+
+-- no address lies in both
+abbrev pub IsApart : Block → Block → Type 0
+IsApart a b = (block_end a ≤ b.base) ⊎ (block_end b ≤ a.base)
+
+abbrev pub IsNestedOrApart : Block → Block → Type 0
+IsNestedOrApart a b = IsWithin a b ⊎ (IsWithin b a ⊎ IsApart a b)
+
+-- what stands past the end of a list of blocks
+abbrev pub no_block : Block
+no_block = record { base = 0; bits = 0 }
+
+abbrev pub link_block : BlockLists → ℕ → Block
+link_block blocks k = slice_index_or blocks.links k no_block
+
+-- the address of the attachment at a place of a link
+abbrev pub address_of : BlockLists → ℕ → ℕ → ℕ
+address_of blocks link place = (link_block blocks link).base + 1 + place
+
+abbrev pub attachments_of : List LinkSize → ℕ → ℕ
+attachments_of links k = (slice_index_or links k (record { net = 0; order = 0; attachments = 0 })).attachments
+
+-- each link's block has an address for each attachment, and two more
+abbrev pub HasRoom : List LinkSize → BlockLists → Type 0
+HasRoom links blocks = EachIndex links (λ k. attachments_of links k + 2 ≤ 2 ^ (32 - (link_block blocks k).bits))
+
+-- one address belongs to one place of one link
+abbrev pub AddressesDiffer : List LinkSize → BlockLists → Type 0
+AddressesDiffer links blocks =
+    (j k place other : ℕ) → j < length links → k < length links → place < attachments_of links j → other < attachments_of links k
+    → address_of blocks j place ≡ address_of blocks k other → (j ≡ k) × (place ≡ other)
+
+-- the laws of the blocks that are assigned to these links
+pub record IsPlaced (links : List LinkSize) (blocks : BlockLists) : Type 0 where
+  pub nested_or_apart : AllPairs IsNestedOrApart (blocks.nets ++ blocks.links)
+  pub links_apart : AllPairs IsApart blocks.links
+  pub room : HasRoom links blocks
+  pub addresses_differ : AddressesDiffer links blocks
