@@ -1,0 +1,66 @@
+//! The best route for an address.
+ghost use Rattle.std.specs.Prelude.{◌≡◌, ℕ, ◌+◌, ◌<◌, ◌≤◌, length, IfSome, IfNone, EachIndex};
+ghost use Rattle.spf_routes.specs.Best.{IsBest, HoldsAt, IsChoice};
+
+use crate::graph::Route;
+use ip_blocks::holds;
+
+/// The place of the route with the longest block that holds the address, the first of equals; none
+/// exactly where no block holds it.
+pub fn best(routes: &[Route], address: u32) -> Option<usize>
+    ensures found { IfSome result (λ place. IsBest routes.now address (length routes.now) place) }
+    ensures none { IfNone result (EachIndex routes.now (λ k. HoldsAt routes.now address k → ⊥)) }
+{
+    let mut best = None;
+    for place in 0..routes.len() {
+        best = better(routes, address, best, place);
+    }
+    best
+}
+
+/// The best of the routes up to this place, from the best of those before it.
+fn better(routes: &[Route], address: u32, best: Option<usize>, place: usize) -> Option<usize>
+    requires place { place < length routes.now }
+    requires best { IsChoice routes.now address place best }
+    ensures { IsChoice routes.now address (place + 1) result }
+{
+    let block = routes[place].block;
+    if !holds(block, address) {
+        return best;
+    }
+    match best {
+        None => Some(place),
+        Some(old) if routes[old].block.bits < block.bits => Some(place),
+        Some(old) => Some(old),
+    }
+}
+
+#[cfg(test)]
+mod tests {
+    use super::*;
+    use ip_blocks::Block;
+
+    fn route(base: u32, bits: u8) -> Route {
+        Route {
+            block: Block { base, bits },
+            interface: 0,
+            next: 0,
+            cost: 1,
+        }
+    }
+
+    #[test]
+    fn takes_the_longest_and_the_first(rt: HostRuntime) {
+        let base = 10 << 24;
+        let nested = [
+            route(0, 0),
+            route(base, 28),
+            route(base + 8, 30),
+            route(base + 8, 30),
+        ];
+        for (address, place) in [(base + 9, Some(2)), (base + 1, Some(1)), (1, Some(0))] {
+            assert_eq!(rt; best(&nested, address), place);
+        }
+        assert_eq!(rt; best(&[route(base, 28)], base + 16), None);
+    }
+}
