@@ -1,0 +1,2 @@
+pub mod DelayBounds
+mod Worked

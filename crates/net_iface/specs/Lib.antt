@@ -1,0 +1,2 @@
+pub mod DropTail
+pub mod InterfaceFields

@@ -1,0 +1,13 @@
+//! An interface of a host. It sends packets in the order in which they are offered, at its bitrate,
+//! and drops one for which its buffer has no room (drop-tail).
+//!
+//! Contracts cite `specs/InterfaceFields.antt` (what they see of an interface) and
+//! `specs/DropTail.antt` (the rule).
+#![tactic(auto)]
+
+mod interface;
+
+pub use interface::{Interface, Offer};
+
+#[cfg(test)]
+mod tests;
