@@ -1,0 +1,56 @@
+-- The plan of a ring, and the entries of its run.
+use Rattle.std.proofs.Common.{ℕ, ◌≡◌, ◌<◌, ◌≤◌, ◌+◌, ◌∙◌, sym, ap, subst, refl, List, length, Option, Some, None, Bool, true, false, Ok, Err, All, arith, suc, inl, inr, ◌⊎◌, cond, nat_lt}
+use Rattle.std.specs.List.{list_any}
+use Rattle.event_machine.specs.Machine.{within}
+use Rattle.dml_tree.specs.declared.tree.Attribute.{Attribute}
+use Rattle.net_graph.specs.declared.fault.ShapeFault.{ShapeFault}
+use Rattle.net_graph.specs.declared.fault.ShapeFault.TheVariants.{DelayTooLong, TooManyChannels}
+use Rattle.ssf_model.specs.declared.event.Entry.{Entry}
+use Rattle.ssf_model.specs.declared.plan.Plan.{Plan}
+use Rattle.ssf_model.specs.Reaction.{LatestTime, LongestDelay}
+use Rattle.ssf_model.specs.Drafts.{planned, MostChannels}
+use Rattle.ring_model.specs.declared.ring.Ring.{Ring}
+use Rattle.ring_model.specs.declared.ring.RingState.{RingState}
+use Rattle.ring_model.specs.declared.ring.RingPayload.{RingPayload}
+use Rattle.ring_model.specs.Reacting.{IsRing, AnyPayload, ring_reaction}
+use Rattle.ring_model.specs.RingLaws.{ring_sound, ring_modest}
+use Rattle.net_build.specs.declared.built.Built.{Built}
+use Rattle.net_build.specs.RingModel.{Read, RingKeys, then_read, ring_of, built_of, build, ring_plan_of, is_long}
+use Rattle.global_list.specs.Entries.{run_entries}
+use Rattle.global_list.specs.Healthy.{IsRunnable}
+use Rattle.plan_opening.proofs.Named.{entries_named}
+
+-- each entry of a ring's run has a name where each entity has one
+pub names_fit : (plan : Plan Ring RingState RingPayload) (until budget names : ℕ) (entries given : List Entry) → until ≤ LatestTime → IsRunnable IsRing AnyPayload plan
+    → length entries ≤ budget → ((R : ℕ) → budget ≤ R → entries ≡ run_entries ring_reaction plan until (within R) (length entries)) → names ≡ length plan.entities
+    → given ≡ entries → All (λ (e : Entry). e.entity < names) given
+names_fit plan until budget names entries given in_time runnable few prefix named same =
+    let some : length entries ≤ suc budget = omega arith in
+    let reached : budget ≤ budget = omega arith in
+    let all : All (λ (e : Entry). e.entity < length plan.entities) (run_entries ring_reaction plan until (within budget) (length entries)) =
+    entries_named ring_reaction IsRing AnyPayload ring_sound ring_modest plan until budget (length entries) in_time runnable some in
+    let Q : List Entry → Type 0 = λ es. All (λ (e : Entry). e.entity < length plan.entities) es in
+    let N : ℕ → Type 0 = λ n. All (λ (e : Entry). e.entity < n) given in
+    subst N (sym named) (subst Q (sym (same ∙ prefix budget reached)) all)
+
+-- the plan of a ring begins with no events before it
+before_built : (keys : RingKeys) → (built_of keys).plan.before ≡ 0
+unfolding planned
+before_built keys = refl
+
+pick : {A F : Type 0} (t u : Bool) (f g : F) (x y : A) → cond t (Err f) (cond u (Err g) (Ok x)) ≡ Ok y → x ≡ y
+pick true u f g x y is = absurd (cc)
+pick false true f g x y is = absurd (cc)
+pick false false f g x y is = cc
+
+build_before : (keys : RingKeys) (b : Built Ring RingState RingPayload) → build keys ≡ Ok b → b.plan.before ≡ 0
+build_before keys b is =
+    let same : built_of keys ≡ b = pick (list_any is_long keys.hops) (nat_lt MostChannels (keys.nodes + length keys.hops)) DelayTooLong TooManyChannels (built_of keys) b is in
+    sym (ap (λ (c : Built Ring RingState RingPayload). c.plan.before) same) ∙ before_built keys
+
+read_before : (r : Read RingKeys) (b : Built Ring RingState RingPayload) → then_read r build ≡ Ok b → b.plan.before ≡ 0
+read_before (Ok keys) b is = build_before keys b is
+read_before (Err fault) b is = absurd (cc)
+
+pub plan_before : (root : List Attribute) (b : Built Ring RingState RingPayload) → ring_plan_of root ≡ Ok b → b.plan.before ≡ 0
+plan_before root b is = read_before (ring_of root) b is

@@ -1,0 +1,93 @@
+-- One word more of a walk.
+use Rattle.std.proofs.Common.{ℕ, ◌≡◌, ◌∙◌, sym, ap, refl, List, [], ◌∷◌, ◌++◌, append_assoc, append-nil, take-append-drop, drop-cons, ◌<◌, ◌≤◌, ◌&&◌, nat_le, codes, arith, length, get_or, take, drop, suc, filter, string_bytes, String, Option, Some, None, true, false, Bool, cond, map}
+use Rattle.std.specs.Option.{option_map}
+use Rattle.std.specs.List.{list_all}
+use Rattle.std.specs.declared.alloc.Global.{Global}
+use Rattle.std.proofs.lemmas.List.Elements.{filter-append}
+use Rattle.std.proofs.lemmas.List.{map-append}
+use Rattle.std.proofs.lemmas.List.Folds.{list_all-map}
+use Rattle.ssfnet_top.specs.GivenOption.{texts_of}
+use Rattle.ssfnet_top.specs.Words.{Assigned, Walked, assigned, with_file, with_option, behind, walked_on, is_plain_word, values_of, same_text, is_seq_option, once, at_most_once, LatestUntil, LargestBudget, DefaultBudget, MostFiles, Seq, seq_of}
+use Rattle.ssfnet_top.specs.Numbers.{number_within}
+
+file_behind : (os : List (List ℕ × List ℕ)) (fs : List (List ℕ)) (word : List ℕ) (a : Option Assigned)
+    → option_map (behind (record { options = os; files = fs; pending = None })) (option_map (with_file word) a)
+    ≡ option_map (behind (record { options = os; files = fs ++ word ∷ []; pending = None })) a
+file_behind os fs word None = refl
+file_behind os fs word (Some a) =
+    ap (λ (files : List (List ℕ)). let b : Assigned = record { options = os ++ a.options; files = files } in Some b) (sym (append_assoc fs (word ∷ []) a.files))
+
+option_behind : (os : List (List ℕ × List ℕ)) (fs : List (List ℕ)) (name value : List ℕ) (a : Option Assigned)
+    → option_map (behind (record { options = os; files = fs; pending = Some name })) (option_map (with_option name value) a)
+    ≡ option_map (behind (record { options = os ++ (name, value) ∷ []; files = fs; pending = None })) a
+option_behind os fs name value None = refl
+option_behind os fs name value (Some a) =
+    ap (λ (options : List (List ℕ × List ℕ)). let b : Assigned = record { options = options; files = fs ++ a.files } in Some b) (sym (append_assoc os ((name, value) ∷ []) a.options))
+
+-- a plain word where no value is wanted is a file
+pub took_file : (os : List (List ℕ × List ℕ)) (fs fs' : List (List ℕ)) (p p' : Option (List ℕ)) (word : List ℕ) → p ≡ None → is_plain_word word ≡ true
+    → fs' ≡ fs ++ word ∷ [] → p' ≡ None → (words : List (List ℕ))
+    → walked_on (record { options = os; files = fs; pending = p }) (word ∷ words) ≡ walked_on (record { options = os; files = fs'; pending = p' }) words
+took_file os fs fs' p p' word none plain files after words = rw (none, files, after, plain) (file_behind os fs word (assigned None words))
+
+-- a plain word where a value is wanted is that value
+pub took_value : (os os' : List (List ℕ × List ℕ)) (fs : List (List ℕ)) (p p' : Option (List ℕ)) (name word : List ℕ) → p ≡ Some name → is_plain_word word ≡ true
+    → os' ≡ os ++ (name, word) ∷ [] → p' ≡ None → (words : List (List ℕ))
+    → walked_on (record { options = os; files = fs; pending = p }) (word ∷ words) ≡ walked_on (record { options = os'; files = fs; pending = p' }) words
+took_value os os' fs p p' name word some plain options after words = rw (some, options, after, plain) (option_behind os fs name word (assigned None words))
+
+-- at the end of the words, where no value is wanted any more
+pub walked_out : (os : List (List ℕ × List ℕ)) (fs : List (List ℕ)) (p : Option (List ℕ)) → p ≡ None
+    → (let a : Assigned = record { options = os; files = fs } in walked_on (record { options = os; files = fs; pending = p }) [] ≡ Some a)
+walked_out os fs p none = rw (none, append-nil, append-nil) refl
+
+-- at the end of the words, where a value is still wanted
+pub walked_short : (w : Walked) (name : List ℕ) → w.pending ≡ Some name → walked_on w [] ≡ None
+walked_short w name some = rw some refl
+
+-- a word that fails makes all the words fail
+pub walked_wrong : (words : List (String Global)) (i : ℕ) (word : String Global) (w : Walked) (all : Option Assigned) → i < length words → word ≡ get_or words i word
+    → all ≡ walked_on w (map string_bytes (drop i words)) → ((others : List (List ℕ)) → walked_on w (string_bytes word ∷ others) ≡ None) → all ≡ None
+walked_wrong words i word w all within is before fails =
+    let split : drop i words ≡ word ∷ drop (suc i) words = drop-cons words i word within ∙ ap (λ (s : String Global). s ∷ drop (suc i) words) (sym is) in
+    before ∙ (ap (λ (ws : List (String Global)). walked_on w (map string_bytes ws)) split ∙ fails (map string_bytes (drop (suc i) words)))
+
+-- the values of an option in two parts of a list
+values_both : (name : List ℕ) (xs ys : List (List ℕ × List ℕ)) → values_of name (xs ++ ys) ≡ values_of name xs ++ values_of name ys
+values_both name xs ys =
+    ap (λ (os : List (List ℕ × List ℕ)). map (λ o. o.1) os) (filter-append (λ o. same_text o.0 name) xs ys)
+    ∙ map-append (λ o. o.1) (filter (λ o. same_text o.0 name) xs) (filter (λ o. same_text o.0 name) ys)
+
+-- an option that was given once, and is given here again
+pub given_again : (name : List ℕ) (os : List (String Global × String Global)) (i : ℕ) (o : String Global × String Global) (a : List ℕ) → i < length os → o ≡ get_or os i o
+    → same_text (string_bytes o.0) name ≡ true → values_of name (map texts_of (take i os)) ≡ a ∷ []
+    → (x y : List ℕ) × (rest : List (List ℕ)) × (values_of name (map texts_of os) ≡ x ∷ y ∷ rest)
+given_again name os i o a within is same before =
+    let split : drop i os ≡ o ∷ drop (suc i) os = drop-cons os i o within ∙ ap (λ (s : String Global × String Global). s ∷ drop (suc i) os) (sym is) in
+    let whole : os ≡ take i os ++ (o ∷ drop (suc i) os) = sym (take-append-drop i os) ∙ ap (λ (rest : List (String Global × String Global)). take i os ++ rest) split in
+    let here : values_of name (texts_of o ∷ map texts_of (drop (suc i) os)) ≡ string_bytes o.1 ∷ values_of name (map texts_of (drop (suc i) os)) = rw same refl in (
+      a,
+      string_bytes o.1,
+      values_of name (map texts_of (drop (suc i) os)),
+      ap (λ (all : List (String Global × String Global)). values_of name (map texts_of all)) whole
+          ∙ (ap (λ (all : List (List ℕ × List ℕ)). values_of name all) (map-append texts_of (take i os) (o ∷ drop (suc i) os))
+          ∙ (values_both name (map texts_of (take i os)) (texts_of o ∷ map texts_of (drop (suc i) os))
+          ∙ (ap (λ (front : List (List ℕ)). front ++ values_of name (texts_of o ∷ map texts_of (drop (suc i) os))) before
+          ∙ ap (λ (back : List (List ℕ)). a ∷ back) here))),
+    )
+
+-- what `seq` is asked, from each part
+pub seq_some : (options : List (List ℕ × List ℕ)) (files : List (List ℕ)) (until budget : ℕ) → list_all is_seq_option options ≡ true
+    → 1 ≤ length files → length files ≤ MostFiles
+    → once (number_within 0 LatestUntil) (values_of (codes "--until") options) ≡ Some until
+    → at_most_once DefaultBudget (number_within 1 LargestBudget) (values_of (codes "--budget") options) ≡ Some budget
+    → (let asked : Seq = record { until = until; budget = budget; files = files } in seq_of (record { options = options; files = files }) ≡ Some asked)
+seq_some options files until budget known some few first second =
+    let least : nat_le 1 (length files) ≡ true = grind arith in
+    let most : nat_le (length files) MostFiles ≡ true = grind arith in
+    rw (known, least, most, first, second) refl
+
+-- an option that it does not know
+pub seq_none : (options : List (List ℕ × List ℕ)) (files : List (List ℕ)) → list_all is_seq_option options ≡ false
+    → seq_of (record { options = options; files = files }) ≡ None
+seq_none options files unknown = rw unknown refl

@@ -1,0 +1,5 @@
+pub mod GivenOption
+pub mod Numbers
+pub mod Refusals
+pub mod Sending
+pub mod Words

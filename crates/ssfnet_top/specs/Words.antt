@@ -1,0 +1,104 @@
+-- The words of a command, after the program's name: the command, and then options and file names in any order.
+use Rattle.std.specs.Prelude.{ℕ, ◌==◌, Bool, nat_eq, nat_le, ◌&&◌, ◌||◌, not, if◌then◌else◌, cond, List, [], ◌∷◌, ◌++◌, length, filter, map, fold, slice_index, codes, Option, Some, None}
+use Rattle.std.specs.Option.{option_map, option_and_then}
+use Rattle.std.specs.List.{list_all}
+use Rattle.std.specs.Cmp.Lexicographic.{pointwise}
+use Rattle.ssfnet_top.specs.Numbers.{number_within}
+
+-- two texts are the same
+abbrev pub same_text : List ℕ → List ℕ → Bool
+same_text a b = pointwise nat_eq a b
+
+-- a word that begins with `-` is no value and no file name
+abbrev pub begins_with_dash : List ℕ → Bool
+begins_with_dash word = nat_eq (slice_index word 0) 45
+
+abbrev pub is_plain_word : List ℕ → Bool
+is_plain_word word = not (nat_eq (length word) 0) && not (begins_with_dash word)
+
+-- the options with their values, and the files, each in the order of the words
+pub record Assigned : Type 0 where
+  pub options : List (List ℕ × List ℕ)
+  pub files : List (List ℕ)
+
+abbrev pub no_words : Assigned
+no_words = record { options = []; files = [] }
+
+abbrev pub with_option : List ℕ → List ℕ → Assigned → Assigned
+with_option name value rest = record rest { options = (name, value) ∷ rest.options }
+
+abbrev pub with_file : List ℕ → Assigned → Assigned
+with_file file rest = record rest { files = file ∷ rest.files }
+
+-- how words are assigned, where the first is the value of the option `name` if there is one
+abbrev pub assigned : Option (List ℕ) → List (List ℕ) → Option Assigned
+assigned None [] = Some no_words
+assigned (Some name) [] = None
+assigned None (word ∷ words) =
+    cond (is_plain_word word) (option_map (with_file word) (assigned None words))
+    (cond (begins_with_dash word) (assigned (Some word) words) None)
+assigned (Some name) (word ∷ words) = cond (is_plain_word word) (option_map (with_option name word) (assigned None words)) None
+
+-- the values of an option
+abbrev pub values_of : List ℕ → List (List ℕ × List ℕ) → List (List ℕ)
+values_of name options = map (λ o. o.1) (filter (λ o. same_text o.0 name) options)
+
+-- an option that must stand once
+abbrev pub once : (List ℕ → Option ℕ) → List (List ℕ) → Option ℕ
+once reads (value ∷ []) = reads value
+once reads [] = None
+once reads (value ∷ other ∷ values) = None
+
+-- an option that may stand once
+abbrev pub at_most_once : ℕ → (List ℕ → Option ℕ) → List (List ℕ) → Option ℕ
+at_most_once default reads [] = Some default
+at_most_once default reads (value ∷ []) = reads value
+at_most_once default reads (value ∷ other ∷ values) = None
+
+-- what `seq` is asked
+pub record Seq : Type 0 where
+  pub until : ℕ
+  pub budget : ℕ
+  pub files : List (List ℕ)
+
+abbrev pub LatestUntil : ℕ
+LatestUntil = 1000000000000000000
+
+abbrev pub LargestBudget : ℕ
+LargestBudget = 1000000000000
+
+abbrev pub DefaultBudget : ℕ
+DefaultBudget = 1000000000
+
+abbrev pub MostFiles : ℕ
+MostFiles = 64
+
+-- the options that `seq` knows
+abbrev pub is_seq_option : List ℕ × List ℕ → Bool
+is_seq_option o = same_text o.0 (codes "--until") || same_text o.0 (codes "--budget")
+
+abbrev pub seq_of : Assigned → Option Seq
+seq_of a = cond (list_all is_seq_option a.options && (nat_le 1 (length a.files) && nat_le (length a.files) MostFiles))
+    (option_and_then (λ until. option_map (λ budget. record { until = until; budget = budget; files = a.files })
+    (at_most_once DefaultBudget (number_within 1 LargestBudget) (values_of (codes "--budget") a.options)))
+    (once (number_within 0 LatestUntil) (values_of (codes "--until") a.options)))
+    None
+
+-- what these words ask, where they are words of a command
+abbrev pub seq_of_words : List (List ℕ) → Option Seq
+seq_of_words [] = None
+seq_of_words (command ∷ words) = cond (same_text command (codes "seq")) (option_and_then seq_of (assigned None words)) None
+
+-- a walk over the words: what was assigned so far, and the option whose value stands next
+pub record Walked : Type 0 where
+  pub options : List (List ℕ × List ℕ)
+  pub files : List (List ℕ)
+  pub pending : Option (List ℕ)
+
+-- what stands before these words is put in front
+abbrev pub behind : Walked → Assigned → Assigned
+behind w a = record { options = w.options ++ a.options; files = w.files ++ a.files }
+
+-- what a walk and the words that follow give together
+abbrev pub walked_on : Walked → List (List ℕ) → Option Assigned
+walked_on w words = option_map (behind w) (assigned w.pending words)

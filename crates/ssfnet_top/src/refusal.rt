@@ -1,0 +1,173 @@
+//! What the program answers where it does not end well: the status, and the line on `err`.
+ghost use Rattle.std.specs.Prelude.{◌≡◌, ◌++◌, ◌∷◌, [], ℕ, length, map, codes, decimal, OnOk};
+ghost use Rattle.ssfnet_top.specs.Refusals.{printable, printable_byte, status_of, line_of, tree_fault_text, shape_fault_text};
+ghost use Rattle.nhi_address.specs.NhiText.{nhi_text};
+
+use dml_tree::TreeFault;
+use net_graph::ShapeFault;
+use nhi_address::{Nhi, print_nhi};
+use sim_base::{Memory, Text, push_number};
+
+/// Why the program did not end well, with its cause.
+#[derive(Drop)]
+pub enum Refusal {
+    /// There was no memory.
+    Memory,
+    /// The words are not those of a command.
+    Words,
+    /// The file of this name could not be read.
+    Read(Text),
+    /// The file of this name is no DML.
+    Dml { file: Text, fault: TreeFault },
+    /// The model needs a part that this program does not have yet.
+    NotYet,
+    /// The model has this fault.
+    Shape(ShapeFault),
+    /// The output could not be written.
+    Write,
+    /// The run has more events than this budget.
+    Budget(u64),
+}
+
+impl From<Memory> for Refusal {
+    ghost use Rattle.std.specs.Prelude.{◌≡◌};
+    ghost use Rattle.ssfnet_top.specs.declared.refusal.Refusal.TheVariants as refusal;
+
+    ghost from_gives = { λ _ r. r ≡ refusal.Memory };
+
+    fn from(_memory: Memory) -> Refusal {
+        Refusal::Memory
+    }
+}
+
+impl Refusal {
+    /// The status with which the program ends.
+    pub fn status(&self) -> u8
+        ensures { result ≡ status_of self.now }
+    {
+        match self {
+            Refusal::Memory => 1,
+            Refusal::Words => 2,
+            Refusal::Read(_) => 3,
+            Refusal::Dml { .. } => 4,
+            Refusal::NotYet | Refusal::Shape(_) => 6,
+            Refusal::Write => 7,
+            Refusal::Budget(_) => 8,
+        }
+    }
+
+    /// Appends the line that is written on `err`.
+    #[tactic(auto, unfolding(crate::specs::Refusals::line_of))]
+    pub fn push_line(&self, out: &mut Vec<u8>) -> Result<(), Memory>
+        ensures { OnOk result (out.new.items ≡ out.old.items ++ (line_of self.now ++ 10 ∷ [])) }
+    {
+        match self {
+            Refusal::Memory => push(out, b"memory")?,
+            Refusal::Words => push(out, b"words")?,
+            Refusal::Read(file) => push_after(out, b"read ", file)?,
+            Refusal::Dml { file, fault } => push_dml(out, file, fault)?,
+            Refusal::NotYet => push(out, b"shape NotYet")?,
+            Refusal::Shape(fault) => push_shape(out, fault)?,
+            Refusal::Write => push(out, b"write")?,
+            Refusal::Budget(budget) => push_count(out, b"budget list ", *budget)?,
+        }
+        push(out, b"\n")
+    }
+}
+
+/// Appends bytes as they are.
+fn push(out: &mut Vec<u8>, bytes: &[u8]) -> Result<(), Memory>
+    ensures { OnOk result (out.new.items ≡ out.old.items ++ bytes.now) }
+{
+    out.extend_from_slice(bytes)?;
+    Ok(())
+}
+
+/// The byte as it is printed in a name or a detail.
+fn printed(byte: u8) -> u8
+    ensures { result ≡ printable_byte byte }
+{
+    if byte < 0x20 { b'?' } else { byte }
+}
+
+/// Appends some bytes and a name or a detail.
+fn push_after(out: &mut Vec<u8>, front: &[u8], text: &Text) -> Result<(), Memory>
+    ensures { OnOk result (out.new.items ≡ out.old.items ++ (front.now ++ printable text.now)) }
+{
+    push(out, front)?;
+    for byte in text.as_bytes() {
+        out.push(printed(*byte))?;
+    }
+    Ok(())
+}
+
+/// Appends some bytes and a number.
+fn push_count(out: &mut Vec<u8>, front: &[u8], count: u64) -> Result<(), Memory>
+    ensures { OnOk result (out.new.items ≡ out.old.items ++ (front.now ++ decimal count)) }
+{
+    push(out, front)?;
+    push_number(out, count)
+}
+
+/// Appends some bytes and an NHI.
+fn push_nhi(out: &mut Vec<u8>, front: &[u8], nhi: &Nhi) -> Result<(), Memory>
+    ensures { OnOk result (out.new.items ≡ out.old.items ++ (front.now ++ nhi_text nhi.now)) }
+{
+    push(out, front)?;
+    print_nhi(nhi, out)
+}
+
+/// Appends the line of a file that is no DML.
+fn push_dml(out: &mut Vec<u8>, file: &Text, fault: &TreeFault) -> Result<(), Memory>
+    ensures { OnOk result (out.new.items ≡ out.old.items ++ (codes "dml " ++ printable file.now ++ 32 ∷ tree_fault_text fault.now)) }
+{
+    push_after(out, b"dml ", file)?;
+    push(out, b" ")?;
+    push_tree_fault(out, fault)
+}
+
+/// Appends the name and the place of a fault in a DML text.
+#[tactic(auto, unfolding(crate::specs::Refusals::tree_fault_text))]
+fn push_tree_fault(out: &mut Vec<u8>, fault: &TreeFault) -> Result<(), Memory>
+    ensures { OnOk result (out.new.items ≡ out.old.items ++ tree_fault_text fault.now) }
+{
+    match fault {
+        TreeFault::BadByte(at) => push_count(out, b"BadByte ", u64::from(*at)),
+        TreeFault::OpenQuote(at) => push_count(out, b"OpenQuote ", u64::from(*at)),
+        TreeFault::KeyWanted(at) => push_count(out, b"KeyWanted ", u64::from(*at)),
+        TreeFault::ValueWanted(at) => push_count(out, b"ValueWanted ", u64::from(*at)),
+        TreeFault::OpenList(at) => push_count(out, b"OpenList ", u64::from(*at)),
+        TreeFault::StrayClose(at) => push_count(out, b"StrayClose ", u64::from(*at)),
+        TreeFault::NestedTooDeep(at) => push_count(out, b"NestedTooDeep ", u64::from(*at)),
+        TreeFault::TooLong => push(out, b"TooLong 16777216"),
+        TreeFault::Memory => push(out, b"Memory"),
+    }
+}
+
+/// Appends the line of a model with a fault.
+#[tactic(auto, unfolding(crate::specs::Refusals::shape_fault_text))]
+fn push_shape(out: &mut Vec<u8>, fault: &ShapeFault) -> Result<(), Memory>
+    ensures { OnOk result (out.new.items ≡ out.old.items ++ (codes "shape " ++ shape_fault_text fault.now)) }
+{
+    push(out, b"shape ")?;
+    match fault {
+        ShapeFault::BadNhi(text) => push_after(out, b"BadNhi ", text),
+        ShapeFault::NoModel => push(out, b"NoModel"),
+        ShapeFault::BadNumber(key) => push_after(out, b"BadNumber ", key),
+        ShapeFault::Missing(key) => push_after(out, b"Missing ", key),
+        ShapeFault::DoubleId(nhi) => push_nhi(out, b"DoubleId ", nhi),
+        ShapeFault::UnknownNhi(nhi) => push_nhi(out, b"UnknownNhi ", nhi),
+        ShapeFault::AttachedTwice(nhi) => push_nhi(out, b"AttachedTwice ", nhi),
+        ShapeFault::UnknownSession(name) => push_after(out, b"UnknownSession ", name),
+        ShapeFault::TooMany(kind) => push_after(out, b"TooMany ", kind),
+        ShapeFault::NoSpace => push(out, b"NoSpace"),
+        ShapeFault::DelayTooLong => push(out, b"DelayTooLong"),
+        ShapeFault::TooManyChannels => push(out, b"TooManyChannels"),
+        ShapeFault::TooManyTimelines(count) => push_count(
+            out,
+            b"TooManyTimelines ",
+            u64::from(*count),
+        ),
+        ShapeFault::Memory => push(out, b"Memory"),
+    }
+}

@@ -1,0 +1,269 @@
+//! The words of a command: which are options with values, which are files, and what they ask.
+ghost use Rattle.std.specs.Prelude.{◌≡◌, ◌≤◌, ◌∷◌, vec_len, ℕ, List, Bool, map, string_bytes, IfOk, IfSome, IfNone, OnOk, IsErrOf, None, Some};
+ghost use Rattle.ssfnet_top.specs.Words.{same_text, begins_with_dash, is_plain_word, assigned, Walked, walked_on, is_seq_option, values_of, once, at_most_once, seq_of, seq_of_words, LatestUntil, LargestBudget, MostFiles};
+ghost use Rattle.ssfnet_top.specs.GivenOption.{texts_of, IsGiven};
+ghost use Rattle.std.specs.List.{list_all};
+ghost use Rattle.ssfnet_top.specs.Numbers.{number_within};
+
+use crate::read_number;
+use std::alloc::{AllocError, AllocFailed, Global};
+use std::marker::Model;
+
+/// The latest end time that may be asked, in ticks.
+const LATEST_UNTIL: u64 = 1_000_000_000_000_000_000;
+
+/// The largest budget that may be asked, and the one where none is, in events.
+const LARGEST_BUDGET: u64 = 1_000_000_000_000;
+
+const DEFAULT_BUDGET: u64 = 1_000_000_000;
+
+/// The most files of one model.
+const MOST_FILES: usize = 64;
+
+/// Why words ask nothing.
+#[derive(Clone, Copy, Debug, PartialEq, Eq)]
+pub enum WordsFault {
+    /// They are not the words of a command.
+    Words,
+    /// There was no memory.
+    Memory,
+}
+
+impl From<AllocError> for WordsFault {
+    ghost use Rattle.std.specs.Prelude.{◌≡◌};
+    ghost use Rattle.ssfnet_top.specs.declared.words.WordsFault.TheVariants.{Memory};
+
+    ghost from_gives = { λ _ fault. fault ≡ Memory };
+
+    fn from(_error: AllocError) -> WordsFault {
+        WordsFault::Memory
+    }
+}
+
+impl<T: Drop> From<AllocFailed<T>> for WordsFault {
+    ghost use Rattle.std.specs.Prelude.{◌≡◌};
+    ghost use Rattle.ssfnet_top.specs.declared.words.WordsFault.TheVariants.{Memory};
+
+    ghost from_gives = { λ _ fault. fault ≡ Memory };
+
+    fn from(_refused: AllocFailed<T>) -> WordsFault {
+        WordsFault::Memory
+    }
+}
+
+/// The options with their values and the files so far, and the option whose value stands next.
+#[derive(Drop)]
+struct Walk {
+    options: Vec<(String, String)>,
+    files: Vec<String>,
+    pending: Option<String>,
+}
+
+impl Model for Walk {
+    ghost use Rattle.std.specs.Prelude.{map, string_bytes};
+    ghost use Rattle.std.specs.Option.{option_map};
+    ghost use Rattle.ssfnet_top.specs.Words.{Walked};
+
+    ghost Value = { Walked };
+
+    ghost view = { λ w. record { options = map (λ o. (string_bytes o.0, string_bytes o.1)) w.options.items; files = map string_bytes w.files.items; pending = option_map string_bytes w.pending } };
+}
+
+/// Whether a word may be a value or a file name: it is not empty and does not begin with `-`.
+fn is_plain(word: &str) -> bool
+    ensures { result ≡ is_plain_word word.now }
+{
+    match word.as_bytes() {
+        [] => false,
+        [first, ..] => *first != b'-',
+    }
+}
+
+/// Whether a word begins with `-`.
+fn is_dashed(word: &str) -> bool
+    ensures { result ≡ begins_with_dash word.now }
+{
+    match word.as_bytes() {
+        [] => false,
+        [first, ..] => *first == b'-',
+    }
+}
+
+impl Walk {
+    /// Takes the next word: the value of the option before it, a file, or an option's name.
+    fn take_word(&mut self, alloc: Global, word: &str) -> Result<(), WordsFault>
+        ensures ok { OnOk result ((words : List (List ℕ)) → walked_on self.old (word.now ∷ words) ≡ walked_on self.new words) }
+        ensures words { IsErrOf result WordsFault.Words → (words : List (List ℕ)) → walked_on self.old (word.now ∷ words) ≡ None }
+    {
+        let owned = String::from_str(alloc, word)?;
+        match self.pending.take() {
+            Some(name) => {
+                if !is_plain(word) {
+                    return Err(WordsFault::Words);
+                }
+                self.options.push((name, owned))?;
+                Ok(())
+            }
+            None => {
+                if is_plain(word) {
+                    self.files.push(owned)?;
+                    return Ok(());
+                }
+                if !is_dashed(word) {
+                    return Err(WordsFault::Words);
+                }
+                self.pending = Some(owned);
+                Ok(())
+            }
+        }
+    }
+}
+
+/// Assigns words: options with their values, and files.
+fn walk_over(alloc: Global, words: &[String]) -> Result<Walk, WordsFault>
+    ensures ok { IfOk result (λ w. assigned None (map string_bytes words.now) ≡ Some (record { options = w.options; files = w.files })) }
+    ensures words { IsErrOf result WordsFault.Words → assigned None (map string_bytes words.now) ≡ None }
+{
+    let mut walk = Walk {
+        options: Vec::new(alloc),
+        files: Vec::new(alloc),
+        pending: None,
+    };
+    for word in words {
+        if let Err(fault) = walk.take_word(alloc, word.as_str()) {
+            return Err(fault);
+        }
+    }
+    if walk.pending.is_some() {
+        return Err(WordsFault::Words);
+    }
+    Ok(walk)
+}
+
+/// How often an option was given, and its value.
+#[derive(Clone, Copy)]
+enum Given<'a> {
+    Never,
+    Once(&'a str),
+    Again,
+}
+
+/// How often the option `name` was given.
+fn times_given<'a>(options: &'a [(String, String)], name: &str) -> Given<'a>
+    ensures { IsGiven result (values_of name.now (map texts_of options.now)) }
+{
+    let mut found = None;
+    for option in options {
+        if option.0.as_str() == name {
+            match found {
+                None => found = Some(option.1.as_str()),
+                Some(_) => return Given::Again,
+            }
+        }
+    }
+    match found {
+        None => Given::Never,
+        Some(value) => Given::Once(value),
+    }
+}
+
+/// The number of an option that has to be given once.
+fn number_once(options: &[(String, String)], name: &str, least: u64, most: u64) -> Option<u64>
+    ensures within { IfSome result (λ n. (least ≤ n) × (n ≤ most)) }
+    ensures number { result ≡ once (number_within least most) (values_of name.now (map texts_of options.now)) }
+{
+    match times_given(options, name) {
+        Given::Once(value) => read_number(value.as_bytes(), least, most),
+        Given::Never | Given::Again => None,
+    }
+}
+
+/// The number of an option that may be given once.
+fn number_or(
+    options: &[(String, String)],
+    name: &str,
+    default: u64,
+    least: u64,
+    most: u64,
+) -> Option<u64>
+    requires { (least ≤ default) × (default ≤ most) }
+    ensures within { IfSome result (λ n. (least ≤ n) × (n ≤ most)) }
+    ensures number { result ≡ at_most_once default (number_within least most) (values_of name.now (map texts_of options.now)) }
+{
+    match times_given(options, name) {
+        Given::Never => Some(default),
+        Given::Once(value) => read_number(value.as_bytes(), least, most),
+        Given::Again => None,
+    }
+}
+
+/// Whether `seq` knows this option.
+fn is_known(option: &(String, String)) -> bool
+    ensures { result ≡ is_seq_option (texts_of option.now) }
+{
+    option.0.as_str() == "--until" || option.0.as_str() == "--budget"
+}
+
+/// Whether `seq` knows each of these options.
+fn are_known(options: &[(String, String)]) -> bool
+    ensures { result ≡ list_all (λ o. is_seq_option (texts_of o)) options.now }
+{
+    options.iter().all(|option| is_known(option))
+}
+
+/// What `seq` is asked: the end time in ticks, the most events, and the names of the files.
+#[derive(Drop)]
+pub struct SeqRequest {
+    pub until: u64,
+    pub budget: u64,
+    pub files: Vec<String>,
+}
+
+/// Reads the words after the program's name.
+///
+/// # Errors
+/// `Words` exactly where they are no words of a command, and `Memory`.
+pub fn read_words(alloc: Global, words: &[String]) -> Result<SeqRequest, WordsFault>
+    ensures ok { IfOk result (λ r. seq_of_words (map string_bytes words.now) ≡ Some (record { until = r.until; budget = r.budget; files = map string_bytes r.files.items })) }
+    ensures words { IsErrOf result WordsFault.Words → seq_of_words (map string_bytes words.now) ≡ None }
+    ensures until { IfOk result (λ r. r.until ≤ LatestUntil) }
+    ensures budget { IfOk result (λ r. (1 ≤ r.budget) × (r.budget ≤ LargestBudget)) }
+    ensures files { IfOk result (λ r. vec_len r.files ≤ MostFiles) }
+{
+    let Some((command, others)) = words.split_first() else {
+        return Err(WordsFault::Words);
+    };
+    if command.as_str() != "seq" {
+        return Err(WordsFault::Words);
+    }
+    let walk = walk_over(alloc, others)?;
+    seq_request(walk).ok_or(WordsFault::Words)
+}
+
+/// What assigned words ask of `seq`.
+fn seq_request(walk: Walk) -> Option<SeqRequest>
+    ensures some { IfSome result (λ r. seq_of (record { options = walk.options; files = walk.files }) ≡ Some (record { until = r.until; budget = r.budget; files = map string_bytes r.files.items })) }
+    ensures none { IfNone result (seq_of (record { options = walk.options; files = walk.files }) ≡ None) }
+    ensures until { IfSome result (λ r. r.until ≤ LatestUntil) }
+    ensures budget { IfSome result (λ r. (1 ≤ r.budget) × (r.budget ≤ LargestBudget)) }
+    ensures files { IfSome result (λ r. vec_len r.files ≤ MostFiles) }
+{
+    let Walk {
+        options,
+        files,
+        pending: _,
+    } = walk;
+    if !are_known(&options) {
+        return None;
+    }
+    if files.is_empty() || files.len() > MOST_FILES {
+        return None;
+    }
+    let until = number_once(&options, "--until", 0, LATEST_UNTIL)?;
+    let budget = number_or(&options, "--budget", DEFAULT_BUDGET, 1, LARGEST_BUDGET)?;
+    Some(SeqRequest {
+        until,
+        budget,
+        files,
+    })
+}
