@@ -1,6 +1,6 @@
 use crate::{has_few_tokens, ring_plan};
 use dml_tree::read;
-use net_graph::{is_net, ShapeFault};
+use net_graph::{ShapeFault, is_net};
 use std::alloc::Global;
 use std::process::Abort;
 use std::test::Fail;
