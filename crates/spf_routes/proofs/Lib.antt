@@ -1,3 +1,10 @@
 pub mod Choices
 pub mod Queues
 pub mod Searching
+pub mod Direct
+pub mod Reaching
+pub mod Walking
+pub mod Tables
+pub mod Starting
+pub mod Edging
+pub mod Rows

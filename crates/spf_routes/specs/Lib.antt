@@ -1,3 +1,4 @@
 pub mod Walks
 pub mod Best
 pub mod Paths
+pub mod Arms

@@ -12,7 +12,9 @@
 
 mod choice;
 mod graph;
+mod routes;
 mod search;
 
 pub use choice::best;
 pub use graph::{Arm, Graph, Period, RipEntry, Route};
+pub use routes::shortest;
