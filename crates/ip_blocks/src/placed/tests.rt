@@ -1,5 +1,5 @@
 //! Worked rows of the layout.
-ghost use Rattle.std.specs.Prelude.{◌≡◌, ◌≢◌, IfOk, length, ◌+◌};
+ghost use Rattle.std.specs.Prelude.{◌≡◌, ◌≢◌, IfOk, Some, length, ◌+◌};
 
 use super::*;
 use crate::holds;
@@ -36,12 +36,13 @@ fn two_links(alloc: Global, a: (u32, u32), b: (u32, u32)) -> Result<Blocks, Bloc
 #[test]
 fn places_larger_first(rt: HostRuntime) -> Result<(), Fail> {
     let base = 10 << 24;
-    for (a, b, first, second) in [
-        ((0, 2), (1, 5), (8, 30), (0, 29)),
-        ((0, 2), (1, 2), (0, 30), (4, 30)),
-        ((1, 2), (0, 2), (4, 30), (0, 30)),
+    for (a, b, first, second, bits) in [
+        ((0, 2), (1, 5), (8, 30), (0, 29), 28),
+        ((0, 2), (1, 2), (0, 30), (4, 30), 29),
+        ((1, 2), (0, 2), (4, 30), (0, 30), 29),
     ] {
         let blocks = two_links(rt.alloc(), a, b)?;
+        assert_eq!(rt; blocks.net(0), Block { base, bits });
         assert_eq!(rt;
             blocks.link(0),
             Block {
@@ -57,6 +58,41 @@ fn places_larger_first(rt: HostRuntime) -> Result<(), Fail> {
             }
         );
     }
+    Ok(())
+}
+
+/// A Net nested in Net 0, at this place.
+fn nested(order: u32) -> NetParent
+    ensures { result ≡ record { parent = Some 0; order = order } }
+{
+    NetParent {
+        parent: Some(0),
+        order,
+    }
+}
+
+#[test]
+fn places_nested_nets(rt: HostRuntime) -> Result<(), Fail> {
+    let base = 10 << 24;
+    let links = [link(0, 0, 2), link(1, 0, 1), link(1, 1, 5)];
+    let nets = [TOP, nested(1), nested(2)];
+    let blocks = assign(rt.alloc(), &links, &nets)?;
+    for (net, from, bits) in [(0, 0, 27), (1, 0, 28), (2, 20, 32)] {
+        let block = Block {
+            base: base + from,
+            bits,
+        };
+        assert_eq!(rt; blocks.net(net), block);
+    }
+    for (link, from, bits) in [(0, 16, 30), (1, 8, 30), (2, 0, 29)] {
+        let block = Block {
+            base: base + from,
+            bits,
+        };
+        assert_eq!(rt; blocks.link(link), block);
+    }
+    assert_eq!(rt; blocks.address(1, 0), base + 9);
+    assert_eq!(rt; blocks.address(2, 4), base + 5);
     Ok(())
 }
 
