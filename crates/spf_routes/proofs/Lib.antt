@@ -8,3 +8,4 @@ pub mod Tables
 pub mod Starting
 pub mod Edging
 pub mod Rows
+pub mod Unique

@@ -13,8 +13,15 @@ use Rattle.spf_routes.specs.Paths.{best_at, behind, IsEdge, IsPath, begins, goes
 use Rattle.spf_routes.specs.Arms.{Enters, entered, AreEntries, leaves, arrives, AreArms}
 use Rattle.spf_routes.proofs.Queues.{at_most_refl, at_most_trans, at_most_behind, behind_at_most}
 
-pub at_most_both : (a b : Label) → IsAtMost a b → IsAtMost b a → (a.cost ≡ b.cost) × (a.interface ≡ b.interface) × (a.next ≡ b.next)
+at_most_both : (a b : Label) → IsAtMost a b → IsAtMost b a → (a.cost ≡ b.cost) × (a.interface ≡ b.interface) × (a.next ≡ b.next)
 at_most_both a b h k = (grind arith, grind arith, grind arith)
+
+pub labels_same : (a b : Label) → IsAtMost a b → IsAtMost b a → a ≡ b
+labels_same a b h k =
+    let both = at_most_both a b h k in
+    let first : ◌≡◌ {A = Label} a (record { cost = b.cost; interface = a.interface; next = a.next }) = ap {B = Label} (λ (x : ℕ). record { cost = x; interface = a.interface; next = a.next }) both.0 in
+    let second : ◌≡◌ {A = Label} (record { cost = b.cost; interface = a.interface; next = a.next }) (record { cost = b.cost; interface = b.interface; next = a.next }) = ap {B = Label} (λ (x : ℕ). record { cost = b.cost; interface = x; next = a.next }) both.1 in
+    first ∙ second ∙ ap {B = Label} (λ (x : ℕ). record { cost = b.cost; interface = b.interface; next = x }) both.2
 
 -- a relaying host is entered with this label
 pub data Arrives (arms : List Arm) (from : ℕ) : ℕ → Label → Type 0 where
@@ -107,13 +114,6 @@ module _ (arms : List Arm) (from links nodes : ℕ) (starts : List Start) (edges
           let one : least.0 ≡ r = cc in
           record { arm = at.arm; label = at.label; known = at.known; relays = at.relays; on_link = sym at.node; there = at.arrives_there; is = labels_same r (behind at.label at.arm.cost) (subst (λ (x : Label). IsAtMost x (behind at.label at.arm.cost)) one least.2) at.no_more }
     ]
-      where
-        labels_same : (a b : Label) → IsAtMost a b → IsAtMost b a → a ≡ b
-        labels_same a b h k =
-            let both = at_most_both a b h k in
-            let first : ◌≡◌ {A = Label} a (record { cost = b.cost; interface = a.interface; next = a.next }) = ap {B = Label} (λ (x : ℕ). record { cost = x; interface = a.interface; next = a.next }) both.0 in
-            let second : ◌≡◌ {A = Label} (record { cost = b.cost; interface = a.interface; next = a.next }) (record { cost = b.cost; interface = b.interface; next = a.next }) = ap {B = Label} (λ (x : ℕ). record { cost = b.cost; interface = x; next = a.next }) both.1 in
-            first ∙ second ∙ ap {B = Label} (λ (x : ℕ). record { cost = b.cost; interface = b.interface; next = x }) both.2
 
 -- ---- walks as lists of arms
 module _ (arms : List Arm) (from : ℕ) (same_host : (a b : Arm) → Contains arms a → Contains arms b → a.host ≡ b.host → a.relays ≡ b.relays) where

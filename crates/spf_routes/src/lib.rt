@@ -17,4 +17,4 @@ mod search;
 
 pub use choice::best;
 pub use graph::{Arm, Graph, Period, RipEntry, Route};
-pub use routes::shortest;
+pub use routes::{one_table, shortest};

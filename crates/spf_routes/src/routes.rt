@@ -1,5 +1,7 @@
 //! The table of least routes of a host.
 ghost use Rattle.std.specs.Prelude.{◌≡◌, ℕ, ◌+◌, ◌^◌, ◌<◌, ◌≤◌, List, length, All, Contains, IfOk, MatchBool};
+ghost use Rattle.spf_routes.specs.declared.graph.Graph.{Graph};
+ghost use Rattle.spf_routes.specs.declared.graph.Route.{Route};
 ghost use Rattle.spf_routes.specs.Walks.{IsGraph, IsTable};
 ghost use Rattle.spf_routes.specs.Arms.{IsLesser, AreDirect, AreEntries, AreArms, AreRoutes, SomeRelays, NoneRelays};
 
@@ -78,20 +80,20 @@ fn starts(
     if !relays(arms, from) {
         return Ok(starts);
     }
-    for arm in arms {
-        if arm.host == from {
+    for second in arms {
+        if second.host == from {
             continue;
         }
-        if !arm.relays {
+        if !second.relays {
             continue;
         }
-        let Some(label) = direct[arm.link as usize] else {
+        let Some(label) = direct[second.link as usize] else {
             continue;
         };
-        let next = arm.address;
+        let next = second.address;
         starts.push(Start {
             label: Label { next, ..label },
-            node: direct.len() + arm.host as usize,
+            node: direct.len() + second.host as usize,
         })?;
     }
     Ok(starts)
@@ -174,6 +176,11 @@ pub fn shortest(alloc: Global, graph: &Graph, from: u32) -> Result<Vec<Route>, M
     let best = settle(alloc, starts.as_slice(), edges.as_slice())?;
     table(alloc, blocks, direct.as_slice(), best.as_slice())
 }
+
+/// A law: a host has one table of least routes.
+pub fn one_table()
+    ensures { (graph : Graph) (from : ℕ) (a b : List Route) → IsTable graph from a → IsTable graph from b → a ≡ b }
+{}
 
 #[cfg(test)]
 mod tests;
