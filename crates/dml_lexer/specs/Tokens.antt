@@ -1,6 +1,6 @@
 -- The tokens of a DML text. The text is split into fronts, one after another: a blank byte, a comment, a bracket,
 -- a quoted text or a word. The tokens are the fronts that are neither blank nor comment.
-use Rattle.std.specs.Prelude.{ℕ, ◌≡◌, ◌+◌, ◌<◌, ◌≤◌, Bool, true, false, not, ◌&&◌, ◌||◌, ◌==◌, nat_lt, ◌⊎◌, List, [], ◌∷◌, ◌++◌, length, Option, Some, None}
+use Rattle.std.specs.Prelude.{ℕ, ◌≡◌, ◌+◌, ◌-◌, ◌<◌, ◌≤◌, Bool, true, false, not, ◌&&◌, ◌||◌, ◌==◌, nat_lt, ◌⊎◌, List, [], ◌∷◌, ◌++◌, length, slice_range, Option, Some, None}
 use Rattle.std.specs.List.{AllByRecursion}
 use Rattle.dml_lexer.specs.declared.lexer.TokenKind.{TokenKind}
 use Rattle.dml_lexer.specs.declared.lexer.TokenKind.TheVariants as kind
@@ -118,3 +118,14 @@ least_length _ = 1
 pub record LiesIn (end : ℕ) (token : Token) : Type 0 where
   pub least : token.from + least_length token.kind ≤ token.to
   pub last : token.to ≤ end
+
+-- the bytes that a token of this kind spans: those of a word are word bytes, and at least one; between the quotes of a
+-- quoted text no quote stands
+abbrev pub SpansBytes : List ℕ → TokenKind → ℕ → ℕ → Type 0
+SpansBytes bytes kind.Word from to = (0 < length (slice_range bytes from to)) × AllByRecursion (λ byte. is_word_byte byte ≡ true) (slice_range bytes from to)
+SpansBytes bytes kind.Quoted from to = AllByRecursion (λ byte. not (byte == 34) ≡ true) (slice_range bytes (from + 1) (to - 1))
+SpansBytes bytes kind.LeftBracket from to = Unit {0}
+SpansBytes bytes kind.RightBracket from to = Unit {0}
+
+abbrev pub HasItsBytes : List ℕ → Token → Type 0
+HasItsBytes bytes token = SpansBytes bytes token.kind token.from token.to
