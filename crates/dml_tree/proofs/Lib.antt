@@ -3,6 +3,8 @@ pub mod Grammars
 pub mod OneFault
 pub mod OneMeaning
 pub mod OneTree
+pub mod ReadBack
 pub mod Readings
 pub mod SameLists
+pub mod Spellable
 pub mod TreeLists

@@ -1,5 +1,5 @@
 -- What the bytes of a file mean: a tree, or the fault that stands first.
-use Rattle.std.specs.Prelude.{ℕ, ◌<◌, ◌≤◌, List, length, Result, Ok, Err}
+use Rattle.std.specs.Prelude.{ℕ, ◌≡◌, ◌<◌, ◌≤◌, true, List, length, Result, Ok, Err}
 use Rattle.dml_lexer.specs.declared.lexer.Token.{Token}
 use Rattle.dml_lexer.specs.declared.lexer.LexFault.{LexFault}
 use Rattle.dml_lexer.specs.declared.lexer.LexFault.TheVariants as lexical
@@ -8,6 +8,7 @@ use Rattle.dml_tree.specs.declared.reading.TreeFault.{TreeFault}
 use Rattle.dml_tree.specs.declared.reading.TreeFault.TheVariants as fault
 use Rattle.dml_tree.specs.Attributes.{Attributes}
 use Rattle.dml_tree.specs.Grammar.{Spells, Faulted}
+use Rattle.dml_tree.specs.SameTree.{same_tree}
 
 -- a fault of the tokens among those of a tree
 abbrev pub of_lexing : LexFault → TreeFault
@@ -55,3 +56,10 @@ AnswersFault Means reason = Means (Err reason)
 abbrev pub Answers : (Result Attributes TreeFault → Type 0) → Result Attributes TreeFault → Type 0
 Answers Means (Ok tree) = Means (Ok tree)
 Answers Means (Err reason) = AnswersFault Means reason
+
+-- Where some bytes spell the tree and this text is not too long, the text reads back as an equal tree, whatever number
+-- its file has.
+abbrev pub ReadsBack : List ℕ → Attributes → Type 0
+ReadsBack text tree =
+    (file number : ℕ) (bytes : List ℕ) → Reads file bytes (Ok tree) → length text ≤ most_bytes
+    → (again : Attributes) × Reads number text (Ok again) × (same_tree again tree ≡ true)

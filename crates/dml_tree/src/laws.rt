@@ -4,7 +4,8 @@ ghost use Rattle.dml_lexer.specs.declared.lexer.Token.{Token};
 ghost use Rattle.dml_tree.specs.Attributes.{Attributes};
 ghost use Rattle.dml_tree.specs.declared.reading.TreeFault.{TreeFault};
 ghost use Rattle.dml_tree.specs.Grammar.{Spells, Faulted};
-ghost use Rattle.dml_tree.specs.Reading.{Reads};
+ghost use Rattle.dml_tree.specs.Reading.{Reads, ReadsBack};
+ghost use Rattle.dml_tree.specs.Printing.{printing};
 
 /// A list of tokens spells at most one tree.
 pub fn one_tree()
@@ -24,4 +25,10 @@ pub fn one_fault()
 /// The bytes of a file have at most one meaning: one tree, or one fault.
 pub fn one_meaning()
     ensures { (file : ℕ) (bytes : List ℕ) (meaning other : Result Attributes TreeFault) → Reads file bytes meaning → Reads file bytes other → meaning ≡ other }
+{}
+
+/// What is printed reads back: where some bytes spell a tree and its canonical printing has at most 16,777,216 bytes,
+/// the printing spells an equal tree.
+pub fn reads_back()
+    ensures { (tree : Attributes) → ReadsBack (printing 0 tree) tree }
 {}

@@ -1,8 +1,9 @@
 //! The canonical printing of a tree: a line for each attribute, its list indented by two spaces more.
-ghost use Rattle.std.specs.Prelude.{◌≡◌, ◌++◌, OnOk, OnErr};
+ghost use Rattle.std.specs.Prelude.{◌≡◌, ◌++◌, OnOk, OnErr, length, drop};
 ghost use Rattle.std.specs.List.{list_all};
 ghost use Rattle.dml_lexer.specs.Tokens.{is_word_byte};
 ghost use Rattle.dml_tree.specs.Printing.{printing, blanks, text_end, is_bare};
+ghost use Rattle.dml_tree.specs.Reading.{ReadsBack};
 
 use crate::{Tree, Value};
 use dml_lexer::is_word_byte;
@@ -12,10 +13,14 @@ use sim_base::{Memory, Text};
 /// its own, indented by two spaces for each open list. A text is bare where it is not empty and has word
 /// bytes alone, else it stands between quotes.
 ///
+/// What is appended reads back as an equal tree, where some bytes spell the tree and it has at most
+/// 16,777,216 bytes.
+///
 /// # Errors
 /// Without memory nothing is appended.
 pub fn write(tree: &Tree, out: &mut Vec<u8>) -> Result<(), Memory>
     ensures printed { OnOk result (out.new.items ≡ out.old.items ++ printing 0 tree.now) }
+    ensures reads_back { OnOk result (ReadsBack (drop (length out.old.items) out.new.items) tree.now) }
     ensures kept { OnErr result (out.new.items ≡ out.old.items) }
 {
     let mut lines = Vec::new(*out.allocator());
