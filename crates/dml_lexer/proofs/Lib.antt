@@ -1,3 +1,4 @@
+pub mod EachText
 pub mod OneSplit
 pub mod Runs
 pub mod TokenBytes

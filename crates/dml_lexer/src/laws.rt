@@ -1,5 +1,5 @@
 //! Laws of tokens: what holds of every text, whatever code reads it.
-ghost use Rattle.std.specs.Prelude.{◌≡◌, ℕ, List, All};
+ghost use Rattle.std.specs.Prelude.{◌≡◌, ◌⊎◌, ℕ, List, All};
 ghost use Rattle.dml_lexer.specs.declared.lexer.Token.{Token};
 ghost use Rattle.dml_lexer.specs.declared.lexer.LexFault.TheVariants.{BadByte, OpenQuote};
 ghost use Rattle.dml_lexer.specs.Tokens.{Spelt, Unspelt, HasItsBytes};
@@ -7,6 +7,11 @@ ghost use Rattle.dml_lexer.specs.Tokens.{Spelt, Unspelt, HasItsBytes};
 /// A text has at most one list of tokens.
 pub fn one_list()
     ensures { (bytes : List ℕ) (tokens other : List Token) → Spelt bytes tokens → Spelt bytes other → tokens ≡ other }
+{}
+
+/// A text has tokens, or a fault.
+pub fn each_text()
+    ensures { (bytes : List ℕ) → ((tokens : List Token) × Spelt bytes tokens) ⊎ (((at : ℕ) × Unspelt bytes (BadByte at)) ⊎ ((at : ℕ) × Unspelt bytes (OpenQuote at))) }
 {}
 
 /// A text that has tokens has no fault.
