@@ -1,13 +1,13 @@
 -- How a node reacts, and its valid states.
-use Rattle.std.specs.Prelude.{ℕ, ◌≡◌, ◌≤◌, Bool, false, List, [], ◌∷◌, replicate, Option, None}
+use Rattle.std.specs.Prelude.{ℕ, ◌≡◌, ◌≤◌, Bool, false, List, [], ◌∷◌, replicate, None}
 use Rattle.ssf_model.specs.declared.wait.Wait.{Wait}
-use Rattle.ssf_model.specs.declared.wait.Wait.TheVariants.{On, For, OnFor, Forever}
+use Rattle.ssf_model.specs.declared.wait.Wait.TheVariants.{On}
 use Rattle.ssf_model.specs.declared.wait.Wake.{Wake}
 use Rattle.ssf_model.specs.declared.wait.Wake.TheVariants.{Begin, Timer, Message}
 use Rattle.ssf_model.specs.declared.out.Written.{Written}
 use Rattle.ssf_model.specs.declared.out.Written.TheVariants.{Channel}
 use Rattle.ssf_model.specs.Wake.{timer_delay}
-use Rattle.ssf_model.specs.Reaction.{Outcome, Reaction, Validity}
+use Rattle.ssf_model.specs.Reaction.{Reaction}
 use Rattle.ssf_model.specs.Deliver.{MostWrites}
 use Rattle.ring_model.specs.declared.ring.RingState.{RingState}
 use Rattle.ring_model.specs.declared.ring.RingPayload.{RingPayload}

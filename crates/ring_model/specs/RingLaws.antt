@@ -1,22 +1,17 @@
 -- The laws of every behaviour, for the nodes of a ring.
-use Rattle.std.specs.Prelude.{ℕ, ◌≡◌, ◌≤◌, ◌<◌, Bool, true, false, List, [], ◌∷◌, ◌++◌, replicate, map, length, Option, Some, None, slice_get, slice_set, nat_eq, cond}
+use Rattle.std.specs.Prelude.{ℕ, ◌≡◌, ◌≤◌, false, List, [], ◌∷◌, ◌++◌, replicate, map, Option, Some, None, slice_get, slice_set}
 use Rattle.std.specs.List.{count_by}
 use Rattle.std.proofs.Common.{refl, ◌∙◌, arith, inl, zero, suc, append-nil}
 use Rattle.std.proofs.lemmas.List.Sums.{count_by-le-length}
 use Rattle.std.proofs.lemmas.List.{length-replicate}
-use Rattle.event_order.specs.Pending.{Among}
 use Rattle.ssf_model.specs.declared.wait.Wait.{Wait}
-use Rattle.ssf_model.specs.declared.wait.Wait.TheVariants.{On, For, OnFor, Forever}
+use Rattle.ssf_model.specs.declared.wait.Wait.TheVariants.{On}
 use Rattle.ssf_model.specs.declared.wait.Wake.{Wake}
 use Rattle.ssf_model.specs.declared.wait.Wake.TheVariants.{Begin, Timer, Message}
 use Rattle.ssf_model.specs.declared.wait.Kind.{Kind}
-use Rattle.ssf_model.specs.declared.wait.Kind.TheVariants.{Begin as BeginKind, Timer as TimerKind, Message as MessageKind}
-use Rattle.ssf_model.specs.declared.out.Written.{Written}
-use Rattle.ssf_model.specs.declared.out.Written.TheVariants.{Channel}
 use Rattle.ssf_model.specs.declared.process.Process.{Process}
-use Rattle.ssf_model.specs.Wake.{waits_on, HasTimer}
-use Rattle.ssf_model.specs.Reaction.{KeepsValid, Keeps, IsReady, Each, IsOwnWrite, is_timed, wait_of, LatestTime}
-use Rattle.ssf_model.specs.Deliver.{IsModest, MostWrites, wake_of, reacted, delivered, is_write_on, IsTimely, IsCarried}
+use Rattle.ssf_model.specs.Reaction.{KeepsValid, Each, IsOwnWrite, is_timed}
+use Rattle.ssf_model.specs.Deliver.{IsModest, MostWrites, wake_of, reacted, delivered, is_write_on}
 use Rattle.ring_model.specs.declared.ring.RingState.{RingState}
 use Rattle.ring_model.specs.declared.ring.RingPayload.{RingPayload}
 use Rattle.ring_model.specs.Reacting.{ring_reaction, IsRing, AnyPayload, token, tokens_at, AreOnePatient}

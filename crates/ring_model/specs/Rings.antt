@@ -1,6 +1,6 @@
 -- Rings of nodes as drafts of plans.
-use Rattle.std.specs.Prelude.{ℕ, ◌≡◌, ◌≤◌, ◌<◌, Bool, false, cond, nat_eq, nat_lt, List, [], ◌∷◌, ◌++◌, map, length, Option, Some, None}
-use Rattle.std.specs.List.{All, count_by, range_with_len}
+use Rattle.std.specs.Prelude.{ℕ, false, nat_eq, nat_lt, List, [], ◌∷◌, ◌++◌, map, Option, Some, None}
+use Rattle.std.specs.List.{count_by, range_with_len}
 use Rattle.ssf_model.specs.declared.builder.BuildFault.{BuildFault}
 use Rattle.ssf_model.specs.declared.builder.BuildFault.TheVariants.{TooManyChannels}
 use Rattle.ssf_model.specs.declared.builder.DraftEntity.{DraftEntity}

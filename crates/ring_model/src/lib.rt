@@ -10,5 +10,7 @@
 #![tactic(auto)]
 
 mod ring;
+#[cfg(test)]
+mod tests;
 
 pub use ring::{Hop, Ring, RingPayload, RingState, ring_builder};

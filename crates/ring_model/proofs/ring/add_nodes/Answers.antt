@@ -1,4 +1,4 @@
-use Rattle.std.proofs.Common.{◌≡◌, ◌∙◌, ◌<◌, ◌⊎◌, ap, refl, length, arith, inl, inr, sym, false, [], ◌∷◌}
+use Rattle.std.proofs.Common.{◌≡◌, ◌∙◌, ◌<◌, ap, length, arith, inl, inr, sym, false, [], ◌∷◌}
 use Rattle.std.proofs.lemmas.List.{get_or_read}
 use Rattle.ssf_model.specs.Drafts.{Draft, entity_refusal}
 use Rattle.ring_model.specs.declared.ring.Ring.{Ring}
