@@ -5,3 +5,4 @@
 pub mod rings;
 #[cfg(test)]
 mod tests;
+pub mod timers;

@@ -1,6 +1,7 @@
 //! Worked examples.
 
 use crate::rings::ring_plan;
+use crate::timers::{listener_plan, ticker_plan};
 use global_list::{Single, SingleEnd, run_single};
 use ring_model::Hop;
 use sim_base::Memory;
@@ -121,6 +122,48 @@ fn goes_by_priority(rt: HostRuntime) {
         assert_eq!(rt; rows.get(3..), Some(last.as_slice()));
         assert_eq!(rt; end, SingleEnd::Finished);
     }
+}
+
+// A wait for no time takes one tick. Time, round, channel, number and entity of each event.
+#[test]
+fn waits_for_times(rt: HostRuntime) {
+    let alloc = rt.alloc();
+    let plan = ticker_plan(alloc).expect(&rt, "a plan");
+    let single = run_single(alloc, plan, 5, 100);
+    let rows = rows(alloc, &single).expect(&rt, "memory");
+    assert_eq!(rt;
+        rows.as_slice(),
+        [
+            [0, 0, 0, 0, 0],
+            [1, 0, 1, 0, 0],
+            [3, 0, 1, 1, 0],
+            [5, 0, 1, 2, 0]
+        ]
+        .as_slice()
+    );
+    assert_eq!(rt; single.end, SingleEnd::Finished);
+}
+
+// The message at 2 wakes process 0, whose next wait ends at 6: the end of its first wait, at 4, is
+// executed and wakes nobody.
+#[test]
+fn passes_over_outdated_ends_of_waits(rt: HostRuntime) {
+    let alloc = rt.alloc();
+    let plan = listener_plan(alloc).expect(&rt, "a plan");
+    let single = run_single(alloc, plan, 6, 100);
+    let rows = rows(alloc, &single).expect(&rt, "memory");
+    assert_eq!(rt;
+        rows.as_slice(),
+        [
+            [0, 0, 0, 0, 0],
+            [2, 0, 2, 0, 0],
+            [2, 1, 3, 0, 0],
+            [4, 0, 1, 0, 0],
+            [6, 0, 1, 1, 0]
+        ]
+        .as_slice()
+    );
+    assert_eq!(rt; single.end, SingleEnd::Finished);
 }
 
 // No node and no event.

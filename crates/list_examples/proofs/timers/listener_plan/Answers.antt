@@ -1,0 +1,8 @@
+use Rattle.std.proofs.Common.{◌≡◌, rules}
+use Rattle.ssf_model.specs.Drafts.{planned}
+use Rattle.list_examples.specs.Timers.{listener_draft}
+use Rattle.list_examples.proofs.TimedPlans.{listener_runs}
+use Rattle.list_examples.proofs.timers.listener_plan.Goals as goal
+
+pub returns-clause-runs : goal.returns-clause-runs
+returns-clause-runs c = let made : c.in_ok-plan.plan ≡ planned listener_draft = search rules in rw made listener_runs
