@@ -1,6 +1,7 @@
 -- What an event makes of an entity in a valid state: it stays valid, no process loses its timer channel, tickets rise
 -- by at most one, and what is written is in range.
-use Rattle.std.proofs.Common.{◌≡◌, ℕ, ◌+◌, ◌≤◌, Bool, true, false, cond, ◌&&◌, nat_eq, List, [], ◌∷◌, ◌++◌, map, length, refl, sym, ap, subst, arith, count_by, append_assoc, Option, Some, None, IfSome, slice_get, slice_set, eqb-true}
+use Rattle.std.proofs.Common.{◌≡◌, ℕ, ◌+◌, ◌<◌, ◌≤◌, Bool, true, false, cond, ◌&&◌, nat_eq, List, [], ◌∷◌, ◌++◌, map, length, refl, sym, ap, subst, arith, count_by, append_assoc, Option, Some, None, IfSome, slice_get, slice_set, eqb-true}
+use Rattle.event_order.specs.Pending.{Among}
 use Rattle.ssf_model.specs.declared.wait.Wait.{Wait}
 use Rattle.ssf_model.specs.declared.wait.Wait.TheVariants.{On, For, OnFor, Forever}
 use Rattle.ssf_model.specs.declared.wait.Wake.{Wake}
@@ -112,6 +113,22 @@ abbrev pub IsMade : {P : Type 0} → (P → Type 0) → List Process → Written
 IsMade carried whole (Channel channel delay payload) = (delay ≤ LongestDelay) × carried payload
 IsMade carried whole (TimerWrite process delay ticket) = (delay ≤ LongestDelay) × IfSome (slice_get whole process) (IsGivenBy ticket)
 
+-- a write on one of these out-channels, or the end of a wait that takes some time
+abbrev pub IsOnOwn : {P : Type 0} → List ℕ → Written P → Type 0
+IsOnOwn outs (Channel channel delay payload) = Among channel outs
+IsOnOwn outs (TimerWrite process delay ticket) = 0 < delay
+
+own_owned : {P : Type 0} (carried : P → Type 0) (outs : List ℕ) (ws : List (Written P)) → Each (IsOwnWrite carried outs) ws → Each (IsOnOwn outs) ws
+own_owned carried outs [] e = tt
+own_owned carried outs (Channel channel delay payload ∷ ws) e = (e.0.0, own_owned carried outs ws e.1)
+own_owned carried outs (TimerWrite process delay ticket ∷ ws) e = absurd e.0
+
+timer_owned : (P : Type 0) (outs : List ℕ) (i ticket : ℕ) (wait : Wait) → Each (IsOnOwn {P = P} outs) (timer_write i ticket (timer_delay wait))
+timer_owned P outs i ticket (On channels) = tt
+timer_owned P outs i ticket Forever = tt
+timer_owned P outs i ticket (For ticks) = (omega arith, tt)
+timer_owned P outs i ticket (OnFor channels ticks) = (omega arith, tt)
+
 own_none : {P : Type 0} (carried : P → Type 0) (outs : List ℕ) (ws : List (Written P)) → Each (IsOwnWrite carried outs) ws → count_by is_timer ws ≡ 0
 own_none carried outs [] e = refl
 own_none carried outs (Channel channel delay payload ∷ ws) e = let h = own_none carried outs ws e.1 in omega arith
@@ -165,6 +182,7 @@ module _ {S P : Type 0} (valid : Validity S) (carried : P → Type 0) (r : React
     pub moved : IsMoved p a.process
     pub made : (whole : List Process) → slice_get whole (length done) ≡ Some a.process → Each (IsMade carried whole) a.writes
     pub timers : count_by is_timer a.writes ≤ cond (is_timed p) 1 0
+    pub owned : Each (IsOnOwn outs) a.writes
 
   turn_by : (done ps : List Process) (p : Process) (s : S) (w : Option (Wake P)) → valid s ins outs (map is_timed (done ++ p ∷ ps)) (map wait_of (done ++ p ∷ ps)) →
       ((wake : Wake P) → w ≡ Some wake → Admits p.wait wake) → ((wake : Wake P) → w ≡ Some wake → Carries carried wake) →
@@ -174,6 +192,7 @@ module _ {S P : Type 0} (valid : Validity S) (carried : P → Type 0) (r : React
     moved = record { timer = refl; least = omega arith; most = omega arith; same = λ e. refl };
     made = λ whole e. tt;
     timers = omega arith;
+    owned = tt;
   }
   turn_by done ps p s (Some wake) v a k =
       let o = r s (length done) now wake in
@@ -202,6 +221,8 @@ module _ {S P : Type 0} (valid : Validity S) (carried : P → Type 0) (r : React
           own_none carried outs o.writes keeps.own_writes,
           timer_count P (length done) (p.ticket + 1) o.wait (is_timed p) (λ f t. keeps.untimed (rw (found_at is_timed done ps p, f) refl) t),
         );
+        owned = each_append (IsOnOwn outs) o.writes (timer_write (length done) (p.ticket + 1) (timer_delay o.wait))
+            (own_owned carried outs o.writes keeps.own_writes) (timer_owned P outs (length done) (p.ticket + 1) o.wait);
       }
 
   pub record Outcomes (done ps : List Process) (d : Delivered S P) : Type 0 where
@@ -209,10 +230,11 @@ module _ {S P : Type 0} (valid : Validity S) (carried : P → Type 0) (r : React
     pub moved : AllMoved ps d.processes
     pub made : Each (IsMade carried (done ++ d.processes)) d.writes
     pub timers : count_by is_timer d.writes ≤ count_by is_timed ps
+    pub owned : Each (IsOnOwn outs) d.writes
 
   pub outcomes : (done ps : List Process) (i : ℕ) (s : S) → i ≡ length done → valid s ins outs (map is_timed (done ++ ps)) (map wait_of (done ++ ps)) →
       AdmitsFrom kind i ps → Outcomes done ps (delivered r now kind i s ps)
-  outcomes done [] i s e v a = record { stays = v; moved = tt; made = tt; timers = omega arith }
+  outcomes done [] i s e v a = record { stays = v; moved = tt; made = tt; timers = omega arith; owned = tt }
   outcomes done (p ∷ ps) i s e v a =
       let first = reacted r now i s p (wake_of kind i p) in
       let turn : Turn done ps p first = subst (λ j. Turn done ps p (reacted r now j s p (wake_of kind i p))) (sym e)
@@ -228,4 +250,5 @@ module _ {S P : Type 0} (valid : Validity S) (carried : P → Type 0) (r : React
             (turn.made (done ++ q ∷ later.processes) (own_at done later.processes q))
             (subst (λ whole. Each (IsMade carried whole) later.writes) (snoc done q later.processes) rest.made);
         timers = count_two (is_timer {P = P}) first.writes later.writes is_timed p ps turn.timers rest.timers;
+        owned = each_append (IsOnOwn outs) first.writes later.writes turn.owned rest.owned;
       }

@@ -21,7 +21,7 @@ use Rattle.global_list.proofs.Sends.{each_among}
 
 -- ---- numbers in a row
 
-among_range : (first n c : ℕ) → Among c (range_with_len first n) → c < first + n
+pub among_range : (first n c : ℕ) → Among c (range_with_len first n) → c < first + n
 among_range first zero c a = absurd a
 among_range first (suc n) c (inl e) = omega arith
 among_range first (suc n) c (inr a) = let h = among_range (first + 1) n c a in omega arith
@@ -33,7 +33,7 @@ above_range first (suc n) c (inr a) = let h = above_range (first + 1) n c a in o
 
 -- ---- places of lists
 
-within_of : {T : Type 0} (xs : List T) (i : ℕ) (x : T) → slice_get xs i ≡ Some x → i < length xs
+pub within_of : {T : Type 0} (xs : List T) (i : ℕ) (x : T) → slice_get xs i ≡ Some x → i < length xs
 within_of [] i x h = absurd (cc)
 within_of (y ∷ ys) zero x h = omega arith
 within_of (y ∷ ys) (suc i) x h = let g = within_of ys i x h in omega arith

@@ -67,12 +67,12 @@ each_set Q [] i x e q = tt
 each_set Q (y ∷ ys) zero x e q = (q, e.1)
 each_set Q (y ∷ ys) (suc i) x e q = (e.0, each_set Q ys i x e.1 q)
 
-get_set_own : {T : Type 0} (xs : List T) (i : ℕ) (x : T) → i < length xs → slice_get (slice_set xs i x) i ≡ Some x
+pub get_set_own : {T : Type 0} (xs : List T) (i : ℕ) (x : T) → i < length xs → slice_get (slice_set xs i x) i ≡ Some x
 get_set_own [] i x h = absurd (omega arith)
 get_set_own (y ∷ ys) zero x h = refl
 get_set_own (y ∷ ys) (suc i) x h = get_set_own ys i x (omega arith)
 
-get_set_other : {T : Type 0} (xs : List T) (i k : ℕ) (x : T) → (i ≡ k → ⊥) → slice_get (slice_set xs i x) k ≡ slice_get xs k
+pub get_set_other : {T : Type 0} (xs : List T) (i k : ℕ) (x : T) → (i ≡ k → ⊥) → slice_get (slice_set xs i x) k ≡ slice_get xs k
 get_set_other [] i k x h = refl
 get_set_other (y ∷ ys) zero zero x h = absurd (h refl)
 get_set_other (y ∷ ys) zero (suc k) x h = refl
@@ -99,16 +99,16 @@ module _ {B S P : Type 0} (valid : Validity S) (carried : P → Type 0) (r : Rea
     (ms : List Mapping) (channels n : ℕ) (es : List (Entity B S P)) (counts : ℕ → ℕ) (e : Event P) (rest : List (Event P)) (en : Entity B S P)
     (at : slice_get es e.entity ≡ Some en) (in_time : e.key.time ≤ LatestTime)
     (healthy : IsHealthy valid carried ms channels n (record { state = record { entities = es; counts = counts }; pending = e ∷ rest })) where
-  own : IsHealthyEntity valid channels n en
+  pub own : IsHealthyEntity valid channels n en
   own = each_get (IsHealthyEntity valid channels n) es e.entity en healthy.entities at
 
-  first : IsHealthyEvent carried es counts n e
+  pub first : IsHealthyEvent carried es counts n e
   first = healthy.pending e (inl refl)
 
-  given : IsGiven e.kind en.processes
+  pub given : IsGiven e.kind en.processes
   given = rw at at first.given
 
-  done : Outcomes valid carried r law e.key.time e.kind en.in_channels en.out_channels in_time first.carries [] en.processes (delivered_to r e en)
+  pub done : Outcomes valid carried r law e.key.time e.kind en.in_channels en.out_channels in_time first.carries [] en.processes (delivered_to r e en)
   done = outcomes valid carried r law e.key.time e.kind en.in_channels en.out_channels in_time first.carries [] en.processes 0 en.state refl own.is_valid.state
       (admits_from e.kind [] en.processes 0 refl given)
 

@@ -113,7 +113,7 @@ module _ {B S P : Type 0} (r : Reaction S P) (ms : List Mapping) where
     keeps = λ x e k h. known_kept x e k (slice_get x.entities e.entity) h;
   }
 
-  writes_rounded : (x : States B S P) (e b : Event P) (o : Option (Entity B S P)) → Among b (writes_at r ms x e o) →
+  pub writes_rounded : (x : States B S P) (e b : Event P) (o : Option (Entity B S P)) → Among b (writes_at r ms x e o) →
       ((b.key.round ≡ 0) × (e.key.time < b.key.time)) ⊎ ((b.key.round ≡ suc e.key.round) × (b.key.time ≡ e.key.time))
   writes_rounded x e b None a = absurd a
   writes_rounded x e b (Some entity) a = let n = numbered_is e.key x.counts (sent_by r ms e entity) b a in

@@ -1,3 +1,6 @@
 pub mod Lawful
 pub mod OfPlans
 pub mod Opens
+pub mod Along
+pub mod Shares
+pub mod OfFitting

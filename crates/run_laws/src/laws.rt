@@ -2,7 +2,7 @@
 //! `kept` the cut: a test on keys, and a write whose key does not pass it is counted and does not
 //! become pending.
 
-ghost use Rattle.std.specs.Prelude.{◌≡◌, ◌⊎◌, ℕ, ◌+◌, ◌<◌, ◌≤◌, Bool, Some, None};
+ghost use Rattle.std.specs.Prelude.{◌≡◌, ◌⊎◌, ℕ, ◌+◌, ◌<◌, ◌≤◌, Bool, length, Some, None};
 ghost use Rattle.event_order.specs.declared.key.Key.{Key as KeyValue};
 ghost use Rattle.event_order.specs.Order.{IsBefore};
 ghost use Rattle.event_order.specs.Pending.{Among};
@@ -10,9 +10,11 @@ ghost use Rattle.event_machine.specs.Machine.{within, all_kept};
 ghost use Rattle.event_machine.specs.Run.{WrittenBefore, ExecutedWithin, Chain};
 ghost use Rattle.ssf_model.specs.declared.event.Event.{Event};
 ghost use Rattle.ssf_model.specs.declared.plan.Plan.{Plan};
+ghost use Rattle.ssf_model.specs.Reaction.{LatestTime};
+ghost use Rattle.ssf_model.specs.Truth.{line_events};
 ghost use Rattle.ssf_model.specs.Run.{Fits, machine_of, opening, run_event, run_events, world_after};
 ghost use Rattle.ssf_model.specs.Drafts.{Draft, planned};
-ghost use Rattle.run_laws.specs.Joined.{IsWriteOf};
+ghost use Rattle.run_laws.specs.Joined.{IsWriteOf, IsPassedOn, IsAligned};
 ghost use Rattle.run_laws.specs.Openings.{OpensInOrder};
 
 use ssf_model::Behaviour;
@@ -57,6 +59,15 @@ pub fn rounds_are_chained<B: Behaviour>()
         → Chain (machine_of (B.reaction b) plan.mappings) until kept (opening plan) (IsWriteOf B (B.reaction b) plan.mappings) n e e.key.round }
 {}
 
+/// Before an event of round k of a plan that fits stand k events at its time, one of each lower
+/// round, each of which wrote the next: without delay, and on a mapping of the plan without delay
+/// that leads from the entity of the one to that of the other.
+pub fn rounds_are_passed_on<B: Behaviour>()
+    ensures { (b : B) (plan : Plan B B.State B.Payload) (until : ℕ) (kept : KeyValue → Bool) → Fits (B.valid b) (B.carried b) plan → until ≤ LatestTime
+        → (n : ℕ) (e : Event B.Payload) → run_event (B.reaction b) plan until kept n ≡ Some e
+        → Chain (machine_of (B.reaction b) plan.mappings) until kept (opening plan) (IsPassedOn (B.reaction b) plan) n e e.key.round }
+{}
+
 /// A run with a cut ends.
 pub fn cut_run_ends<B: Behaviour>()
     ensures { (b : B) (plan : Plan B B.State B.Payload) (until R : ℕ) → OpensInOrder plan
@@ -67,4 +78,17 @@ pub fn cut_run_ends<B: Behaviour>()
 pub fn cut_keeps_first<B: Behaviour>()
     ensures { (b : B) (plan : Plan B B.State B.Payload) (until R : ℕ) → OpensInOrder plan
         → (n : ℕ) → n ≤ R + 1 → run_events (B.reaction b) plan until (within R) n ≡ run_events (B.reaction b) plan until all_kept n }
+{}
+
+/// Entities are numbered by timelines, and the two ends of each mapping without delay are on one.
+/// Where no timeline has more than `most` events, no cut at a round of at least `most` drops
+/// anything: the events are those of the run that drops nothing. The events are counted in the run
+/// with the cut (`cut`), or in the one without (`whole`).
+pub fn few_events_are_not_cut<B: Behaviour>()
+    ensures cut { (b : B) (plan : Plan B B.State B.Payload) (until : ℕ) (line : ℕ → ℕ) → Fits (B.valid b) (B.carried b) plan → until ≤ LatestTime → IsAligned plan line
+        → (R most : ℕ) → most ≤ R → ((i n : ℕ) → length (line_events (B.reaction b) plan until (within R) line i n) ≤ most)
+        → (n : ℕ) → run_events (B.reaction b) plan until (within R) n ≡ run_events (B.reaction b) plan until all_kept n }
+    ensures whole { (b : B) (plan : Plan B B.State B.Payload) (until : ℕ) (line : ℕ → ℕ) → Fits (B.valid b) (B.carried b) plan → until ≤ LatestTime → IsAligned plan line
+        → (R most : ℕ) → most ≤ R → ((i n : ℕ) → length (line_events (B.reaction b) plan until all_kept line i n) ≤ most)
+        → (n : ℕ) → run_events (B.reaction b) plan until (within R) n ≡ run_events (B.reaction b) plan until all_kept n }
 {}

@@ -6,3 +6,4 @@ pub mod Output
 pub mod Reaction
 pub mod Run
 pub mod Wake
+pub mod Truth
