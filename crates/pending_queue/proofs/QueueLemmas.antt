@@ -18,7 +18,7 @@ use Rattle.pending_queue.specs.declared.node.Day.{Day}
 use Rattle.pending_queue.specs.Chains.{IsFirst, IsApartAt, IsLinked, Adds, Parts}
 use Rattle.pending_queue.specs.Nodes.{key_where, key_in, next_in, slot, next_at, item_in, item_at, held, items_of, sorted, first_in, last_in, last_left, first_at, last_at, day_number, SetsDay, HasReached, without, AreEmpty, CanLink, IsCalendar, IsLeast, IsWithin, Picks, SameNodes}
 use Rattle.pending_queue.specs.Store.{HasFree, Occupies, Releases}
-use Rattle.pending_queue.specs.Queue.{Queue, spare_of, IsQueue}
+use Rattle.pending_queue.specs.Queue.{Queue, queue, spare_of, IsQueue}
 use Rattle.pending_queue.proofs.ChainLemmas.{same_or_not, one_key_at, was_there, parted}
 use Rattle.pending_queue.proofs.WalkLemmas.{first_alike, first_same}
 use Rattle.pending_queue.proofs.NodeLemmas.{slot_within, at_place}
@@ -28,6 +28,26 @@ use Rattle.pending_queue.proofs.SearchLemmas.{picked_first, div_along}
 use Rattle.pending_queue.proofs.StoreLemmas.{free_kept, free_none, free_released}
 
 -- ---- sorted lists
+
+not_zero : (n : ℕ) → 0 < n → nat_eq n 0 ≡ false
+not_zero n h = grind (arith, common_steps)
+
+-- with a table of days, the room is what the items leave of the capacity
+pub spare_some : (days : List Day) (cap count : ℕ) → 0 < spare_of days cap count → 0 < length days
+spare_some [] cap count h = absurd (omega arith)
+spare_some (d ∷ days) cap count h = omega arith
+
+pub spare_same : (days days' : List Day) (cap cap' count : ℕ) → 0 < length days → 0 < length days' → cap' ≡ cap → spare_of days' cap' count ≡ spare_of days cap count
+spare_same days days' cap cap' count some some' e =
+    let here : nat_eq (length days) 0 ≡ false = not_zero (length days) some in
+    let there : nat_eq (length days') 0 ≡ false = not_zero (length days') some' in
+    rw (here, there) (omega arith)
+
+pub spare_left : (days days' : List Day) (cap cap' count : ℕ) → length days' ≡ length days → 0 < length days → cap' ≡ cap → count ≤ cap → 1 ≤ count → spare_of days' cap' (count - 1) ≡ spare_of days cap count + 1
+spare_left days days' cap cap' count len some same most least =
+    let here : nat_eq (length days) 0 ≡ false = not_zero (length days) some in
+    let there : nat_eq (length days') 0 ≡ false = not_zero (length days') (omega arith) in
+    rw (here, there) (omega arith)
 
 module _ {T : Type 0} (key : T → Key) where
   not_back : (x y : T) → IsBefore (key x) (key y) → comes_before (key y) (key x) ≡ false
@@ -292,6 +312,25 @@ module _ {T : Type 0} (key : T → Key) where
     tabled = λ none. absurd (omega arith);
   }
 
+  -- the queue after its nodes were linked anew
+  pub queue_again : (old new : List (Node T)) (count : ℕ) (free least : Option ℕ) (days days' : List Day) (width width' : ℕ) → IsQueue key old free count days width least → SameNodes old new →
+      0 < width' → 0 < length days' → IsCalendar width' new days' → IsQueue key new free count days' width' least
+  queue_again old new count free least days days' width width' q s wide some linked = record {
+    has_free = same_free old new free count s q.has_free;
+    counted = q.counted ∙ sym (ap length s.items);
+    keyed = same_keyed old new s q.keyed;
+    apart = same_apart old new s q.apart;
+    linked = linked;
+    least_is = first_same IsBefore (slot old) (slot new) (λ j. Unit {0}) least s.keys q.least_is;
+    wide = wide;
+    tabled = λ none. absurd (omega arith);
+  }
+
+  pub view_again : (old new : List (Node T)) (count cap cap' : ℕ) (days days' : List Day) → SameNodes old new → 0 < length days → 0 < length days' → cap' ≡ cap →
+      queue (sorted key new) (spare_of days' cap' count) ≡ queue (sorted key old) (spare_of days cap count)
+  view_again old new count cap cap' days days' s some some' e = let items : sorted key new ≡ sorted key old = ap (λ xs. put_all key xs []) s.items in
+      let spare = spare_same days days' cap cap' count some some' e in cc
+
   pub sorted_after : (old mid next new : List (Node T)) (item : T) (k : Key) (at : ℕ) → IsKeyed old → IsApartAt (slot old) → k ≡ key item → ((other : T) → Among other (sorted key old) → key other ≡ key item → ⊥) → Occupies old mid item k at →
       SameNodes mid next → SameNodes next new → sorted key new ≡ put key item (sorted key old)
   sorted_after old mid next new item k at keyed apart k_is fresh o s t = ap (λ xs. put_all key xs []) (t.items ∙ s.items) ∙ occ_sorted old mid item k at o k_is keyed apart fresh
@@ -400,17 +439,11 @@ pub first_read : {T : Type 0} (o : Option (Bor T)) (item : Option T) (x : T) (xs
 first_read None item x xs ys e f g = tt
 first_read (Some r) item x xs ys e f g = ap (λ zs. slice_get zs 0) g ∙ sym (e ∙ f)
 
+pub full_len : (n m : ℕ) → false ≡ (n == 0) → n ≡ m → 0 < m
+full_len n m e h = grind (arith, common_steps)
+
 pub empty_len : (n m : ℕ) → true ≡ (n == 0) → n ≡ m → m ≡ 0
 empty_len n m e h = grind (arith, common_steps)
-
-pub spare_left : (days days' : List Day) (cap cap' count : ℕ) → length days' ≡ length days → 0 < length days → cap' ≡ cap → count ≤ cap → 1 ≤ count → spare_of days' cap' (count - 1) ≡ spare_of days cap count + 1
-spare_left days days' cap cap' count len some same most least =
-    let here : nat_eq (length days) 0 ≡ false = not_zero (length days) some in
-    let there : nat_eq (length days') 0 ≡ false = not_zero (length days') (omega arith) in
-    rw (here, there) (omega arith)
-  where
-    not_zero : (n : ℕ) → 0 < n → nat_eq n 0 ≡ false
-    not_zero n h = grind (arith, common_steps)
 
 module _ {T : Type 0} (key : T → Key) (nodes : List (Node T)) (free : Option ℕ) (count : ℕ) (days : List Day) (width : ℕ) (least : Option ℕ) (q : IsQueue key nodes free count days width least) where
   pub days_some : (at : ℕ) → at < length nodes → 0 < length days
@@ -460,3 +493,9 @@ put_keeps key P (Ok v) old new item ok err here all other a = elim (put_among ke
   | inr b ↦ all other b
 ]
 put_keeps {T} key P (Err v) old new item ok err here all other a = all other (subst (λ (q : Queue T). Among other q.items) err a)
+
+-- what holds of the items of a queue holds after the least one went
+pub rest_keeps : {T : Type 0} (P : T → Type 0) (taken : Option T) (old new : Queue T) → (IsNone taken → new ≡ old) → IfSome taken (λ x. old.items ≡ x ∷ new.items) →
+    ((other : T) → Among other old.items → P other) → (other : T) → Among other new.items → P other
+rest_keeps {T} P None old new empty least all other a = all other (subst (λ (q : Queue T). Among other q.items) (empty refl) a)
+rest_keeps P (Some x) old new empty least all other a = all other (subst (λ xs. Among other xs) (sym least) (inr a))

@@ -1,6 +1,6 @@
 //! The chains of the days, each in key order.
 
-ghost use Rattle.std.specs.Prelude.{◌≡◌, ◌+◌, ◌<◌, ◌≤◌, length, take, ◌/◌, ◌%◌};
+ghost use Rattle.std.specs.Prelude.{◌≡◌, ◌+◌, ◌<◌, ◌≤◌, length, take, ◌/◌, ◌%◌, IsNone, IsSome, IsTrue};
 ghost use Rattle.event_order.specs.Order.{IsBefore};
 ghost use Rattle.pending_queue.specs.Chains.{IsAfter, IsFirst, IsApartAt};
 ghost use Rattle.pending_queue.specs.Nodes.{slot, without, day_number, AreEmpty, CanLink, IsCalendar, IsPreceded, IsWithin, SameNodes, SetsNext, SetsDay, Hooks, next_from, end_with, last_at, last_left};
@@ -35,8 +35,14 @@ fn set_day(days: &mut [Day], day: usize, first: Option<usize>, last: Option<usiz
 }
 
 /// The last node before the node `at` in the chain of its day, which does not hold that node yet.
-/// A chain that ends before it is not walked along.
-fn place<T>(nodes: &[Node<T>], days: &[Day], width: u64, at: usize) -> Option<usize>
+/// A chain that ends before it is not walked along. `walked` rises by one for each step of a walk.
+fn place<T>(
+    nodes: &[Node<T>],
+    days: &[Day],
+    width: u64,
+    at: usize,
+    walked: &mut u64,
+) -> Option<usize>
     requires width { 0 < width }
     requires days { 0 < length days.now }
     requires can { CanLink width nodes.now days.now at }
@@ -57,6 +63,7 @@ fn place<T>(nodes: &[Node<T>], days: &[Day], width: u64, at: usize) -> Option<us
         }
         pred = Some(node);
         here = nodes[node].next;
+        *walked = walked.saturating_add(1);
     }
     pred
 }
@@ -93,8 +100,15 @@ fn end_of(neighbour: Option<usize>, end: Option<usize>, at: usize) -> Option<usi
     }
 }
 
-/// Puts the node `at`, which no chain holds, into the chain of its day.
-pub(crate) fn link<T>(nodes: &mut [Node<T>], days: &mut [Day], width: u64, at: usize)
+/// Puts the node `at`, which no chain holds, into the chain of its day. `walked` rises by one for
+/// each step along the chain.
+pub(crate) fn link<T>(
+    nodes: &mut [Node<T>],
+    days: &mut [Day],
+    width: u64,
+    at: usize,
+    walked: &mut u64,
+)
     requires width { 0 < width }
     requires days { 0 < length days.old }
     requires at { at < length nodes.old }
@@ -105,7 +119,7 @@ pub(crate) fn link<T>(nodes: &mut [Node<T>], days: &mut [Day], width: u64, at: u
     let key = nodes[at].key;
     let day = day_of(&key, width, days.len());
     let ends = days[day];
-    let pred = place(nodes, days, width, at);
+    let pred = place(nodes, days, width, at, walked);
     let next = next_after(nodes, ends.first, pred);
     set_next(nodes, at, next);
     hook(nodes, pred, at);
@@ -115,8 +129,8 @@ pub(crate) fn link<T>(nodes: &mut [Node<T>], days: &mut [Day], width: u64, at: u
 }
 
 /// Puts the node `index`, where it holds an item, into the chain of its day, which holds earlier
-/// nodes alone.
-fn link_next<T>(nodes: &mut [Node<T>], days: &mut [Day], width: u64, index: usize)
+/// nodes alone. `walked` rises by one for each step along the chain.
+fn link_next<T>(nodes: &mut [Node<T>], days: &mut [Day], width: u64, index: usize, walked: &mut u64)
     requires width { 0 < width }
     requires days { 0 < length days.old }
     requires index { index < length nodes.old }
@@ -126,22 +140,45 @@ fn link_next<T>(nodes: &mut [Node<T>], days: &mut [Day], width: u64, index: usiz
     ensures same { SameNodes nodes.old nodes.new }
 {
     if nodes[index].item.is_some() {
-        link(&mut nodes[..index + 1], days, width, index);
+        link(&mut nodes[..index + 1], days, width, index, walked);
     }
 }
 
-/// Puts every node that holds an item into the chain of its day, where all chains are empty.
-pub(crate) fn relink<T>(nodes: &mut [Node<T>], days: &mut [Day], width: u64)
+/// Whether these are more steps than the limit, where there is one.
+fn exceeds(walked: u64, most: Option<u64>) -> bool
+    ensures { IsTrue result → IsSome most }
+{
+    match most {
+        Some(limit) => walked > limit,
+        None => false,
+    }
+}
+
+/// Puts every node that holds an item into the chain of its day, where all chains are empty, and
+/// answers whether that is done. It gives up after more than `most` steps along chains, where there
+/// is such a limit, and then the chains are good for nothing.
+pub(crate) fn relink<T>(
+    nodes: &mut [Node<T>],
+    days: &mut [Day],
+    width: u64,
+    most: Option<u64>,
+) -> bool
     requires width { 0 < width }
     requires days { 0 < length days.old }
     requires empty { AreEmpty days.old }
     requires apart { IsApartAt (slot nodes.old) }
-    ensures linked { IsCalendar width nodes.new days.new }
+    ensures linked { IsTrue result → IsCalendar width nodes.new days.new }
+    ensures all { IsNone most → IsTrue result }
     ensures same { SameNodes nodes.old nodes.new }
 {
+    let mut walked = 0;
     for index in 0..nodes.len() {
-        link_next(nodes, days, width, index);
+        if exceeds(walked, most) {
+            return false;
+        }
+        link_next(nodes, days, width, index, &mut walked);
     }
+    true
 }
 
 /// Lets the chain of the day `day` begin with `next`, the node behind its first one.

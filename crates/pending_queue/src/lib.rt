@@ -8,13 +8,19 @@
 //! of nodes in key order with its two ends. The place of the least item is kept. A node that goes
 //! behind the last one of its day is put there at once, else its place is found by a walk. After the
 //! least item went, the next one is looked for day by day over one turn of the table, and after that
-//! among the first nodes of all days. The table is doubled where there are more than twice as many
-//! items as days, and the width of a day is then the span of the times divided by the number of items.
+//! among the first nodes of all days.
 //!
-//! So where times are spread evenly, each call takes about the same time, however many items there
-//! are. It takes longer where many items share a day and do not come in the order of their keys, as
-//! with equal times or with a cluster in a very long span: putting one in may then walk along all of
-//! them. And where few items are left in a large table, taking one may go through all days.
+//! The table is doubled where there are more than twice as many items as days, and the width of a day
+//! is then the span of the times divided by the number of items. Steps along chains and over days are
+//! counted. Where the nodes go into chains too long for that width, a quarter of it is tried, and so
+//! on. Where later calls took many steps for their number, the nodes are spread anew over the same
+//! days: by a quarter of the width after many steps along chains, by four times the width after many
+//! steps over days. So the time of a call is near constant on the average, whether the times are even,
+//! or begin as one, or most of them stand close together in a very long span.
+//!
+//! It is not where many items have one time and do not come in the order of their keys: they share a
+//! day whatever its width, and putting one in may walk along all of them. A single call may take long
+//! at any time, since it may spread all nodes. No contract says anything of time.
 #![tactic(auto)]
 
 mod chain;

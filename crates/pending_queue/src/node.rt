@@ -1,4 +1,4 @@
-//! The parts of the calendar: nodes, each with room for one item, and days.
+//! The parts of the calendar: nodes, each with room for one item, days, and counts of steps.
 
 use event_order::Key;
 
@@ -17,4 +17,13 @@ pub(crate) struct Node<T> {
 pub(crate) struct Day {
     pub(crate) first: Option<usize>,
     pub(crate) last: Option<usize>,
+}
+
+/// The steps that calls took beyond a few each, since the nodes were last spread over the days.
+#[derive(Clone, Copy)]
+pub(crate) struct Steps {
+    /// Steps along chains, to find the place of a node.
+    pub(crate) walked: u64,
+    /// Days that were searched in vain for the least node.
+    pub(crate) searched: u64,
 }

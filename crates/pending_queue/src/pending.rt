@@ -5,10 +5,10 @@ ghost use Rattle.event_order.specs.Pending.{put, Among, IsRising};
 ghost use Rattle.pending_queue.specs.Queue.{queue};
 
 use crate::chain::day_of;
-use crate::node::{Day, Node};
+use crate::node::{Day, Node, Steps};
 use crate::search::{earlier, least_from};
 use crate::store::occupy;
-use crate::table::{drop_first_of, empty_table, link_item, release_item, widen};
+use crate::table::{NO_STEPS, balance, drop_first_of, empty_table, link_item, release_item, widen};
 use event_order::Keyed;
 use sim_base::Memory;
 use std::alloc::Global;
@@ -27,6 +27,7 @@ pub struct Pending<T: Keyed> {
     days: Vec<Day>,
     width: u64,
     least: Option<usize>,
+    steps: Steps,
 }
 
 impl<T: Keyed> Model for Pending<T> {
@@ -55,6 +56,7 @@ impl<T: Keyed + Drop> Pending<T> {
             days: Vec::new(alloc),
             width: 1,
             least: None,
+            steps: NO_STEPS,
         }
     }
 
@@ -99,6 +101,8 @@ impl<T: Keyed + Drop> Pending<T> {
             return Err((item, Memory));
         }
         self.add(item);
+        self.widen();
+        self.balance();
         Ok(())
     }
 
@@ -111,9 +115,45 @@ impl<T: Keyed + Drop> Pending<T> {
     {
         let key = item.key();
         let at = occupy(&mut self.nodes, &mut self.free, &mut self.count, item, key);
-        link_item(&mut self.nodes, &mut self.days, self.width, at);
+        link_item(
+            &mut self.nodes,
+            &mut self.days,
+            self.width,
+            at,
+            &mut self.steps.walked,
+        );
         self.least = earlier(&self.nodes, self.least, Some(at));
-        widen(&mut self.nodes, &mut self.days, &mut self.width, self.count);
+    }
+
+    /// Spreads the items over more days, where they are many.
+    fn widen(&mut self)
+        ensures { self.new ≡ self.old }
+    {
+        if self.days.is_empty() {
+            return;
+        }
+        widen(
+            &mut self.nodes,
+            &mut self.days,
+            &mut self.width,
+            &mut self.steps,
+            self.count,
+        );
+    }
+
+    /// Spreads the items over days of another width, where that saves steps.
+    fn balance(&mut self)
+        ensures { self.new ≡ self.old }
+    {
+        if self.days.is_empty() {
+            return;
+        }
+        balance(
+            &mut self.nodes,
+            &mut self.days,
+            &mut self.width,
+            &mut self.steps,
+        );
     }
 
     /// The item with the least key, and None where the queue is empty.
@@ -134,6 +174,18 @@ impl<T: Keyed + Drop> Pending<T> {
         ensures least { IfSome result (λ item. self.old.items ≡ item ∷ self.new.items) }
         ensures spare { IsSome result → self.new.spare ≡ self.old.spare + 1 }
     {
+        let item = self.remove_least();
+        self.balance();
+        item
+    }
+
+    /// Takes out the item with the least key, and answers None where the queue is empty.
+    fn remove_least(&mut self) -> Option<T>
+        ensures none { IsNone result ↔ (self.old.items ≡ []) }
+        ensures empty { IsNone result → self.new ≡ self.old }
+        ensures least { IfSome result (λ item. self.old.items ≡ item ∷ self.new.items) }
+        ensures spare { IsSome result → self.new.spare ≡ self.old.spare + 1 }
+    {
         let at = self.least?;
         let key = self.nodes[at].key;
         let next = self.nodes[at].next;
@@ -141,7 +193,14 @@ impl<T: Keyed + Drop> Pending<T> {
         drop_first_of(&mut self.days, day, next);
         let item = release_item(&mut self.nodes, &mut self.free, at);
         self.count -= 1;
-        self.least = least_from(&self.nodes, &self.days, self.width, key.time / self.width);
+        let from = key.time / self.width;
+        self.least = least_from(
+            &self.nodes,
+            &self.days,
+            self.width,
+            from,
+            &mut self.steps.searched,
+        );
         item
     }
 }

@@ -57,8 +57,15 @@ fn first_on<T>(nodes: &[Node<T>], days: &[Day], width: u64, day: u64) -> Option<
 }
 
 /// The least node, where its time lies at most one turn of all days after the day `from`, which is
-/// counted in widths from time 0. No node has a time before that day.
-fn in_turn<T>(nodes: &[Node<T>], days: &[Day], width: u64, from: u64) -> Option<usize>
+/// counted in widths from time 0. No node has a time before that day. `searched` rises by one for
+/// each day that is searched in vain.
+fn in_turn<T>(
+    nodes: &[Node<T>],
+    days: &[Day],
+    width: u64,
+    from: u64,
+    searched: &mut u64,
+) -> Option<usize>
     requires width { 0 < width }
     requires days { 0 < length days.now }
     requires apart { IsApartAt (slot nodes.now) }
@@ -71,12 +78,20 @@ fn in_turn<T>(nodes: &[Node<T>], days: &[Day], width: u64, from: u64) -> Option<
         if let Some(first) = first_on(nodes, days, width, day) {
             return Some(first);
         }
+        *searched = searched.saturating_add(1);
     }
     None
 }
 
 /// The least node. No node has a time before the day `from`, which is counted in widths from time 0.
-pub(crate) fn least_from<T>(nodes: &[Node<T>], days: &[Day], width: u64, from: u64) -> Option<usize>
+/// `searched` rises by one for each day that is searched in vain.
+pub(crate) fn least_from<T>(
+    nodes: &[Node<T>],
+    days: &[Day],
+    width: u64,
+    from: u64,
+    searched: &mut u64,
+) -> Option<usize>
     requires width { 0 < width }
     requires days { 0 < length days.now }
     requires apart { IsApartAt (slot nodes.now) }
@@ -84,7 +99,7 @@ pub(crate) fn least_from<T>(nodes: &[Node<T>], days: &[Day], width: u64, from: u
     requires reached { HasReached width nodes.now from }
     ensures { IsLeast nodes.now result }
 {
-    match in_turn(nodes, days, width, from) {
+    match in_turn(nodes, days, width, from, searched) {
         Some(least) => Some(least),
         None => first_of_all(nodes, days),
     }

@@ -6,13 +6,27 @@ ghost use Rattle.pending_queue.specs.Nodes.{slot, AreEmpty, CanLink, IsCalendar,
 ghost use Rattle.pending_queue.specs.Store.{Releases};
 
 use crate::chain::{drop_first, link, relink};
-use crate::node::{Day, Node};
+use crate::node::{Day, Node, Steps};
 use crate::store::release;
 use std::alloc::AllocError;
 
 const NO_NODES: Day = Day {
     first: None,
     last: None,
+};
+
+/// How many steps for each node and each day are many.
+const MANY: u64 = 8;
+
+/// How many steps of each kind a call may take, on the average.
+const FEW: u64 = 2;
+
+/// By how much the width of a day is changed.
+const CHANGE: u64 = 4;
+
+pub(crate) const NO_STEPS: Steps = Steps {
+    walked: 0,
+    searched: 0,
 };
 
 /// Makes the table one of `count` days without nodes.
@@ -46,8 +60,15 @@ fn width_for<T>(nodes: &[Node<T>], count: usize) -> u64
     (last.saturating_sub(first) / count as u64).max(1)
 }
 
-/// Puts the node `at`, which no chain holds, into the chain of its day.
-pub(crate) fn link_item<T>(nodes: &mut Vec<Node<T>>, days: &mut Vec<Day>, width: u64, at: usize)
+/// Puts the node `at`, which no chain holds, into the chain of its day. `walked` rises by one for
+/// each step along the chain.
+pub(crate) fn link_item<T>(
+    nodes: &mut Vec<Node<T>>,
+    days: &mut Vec<Day>,
+    width: u64,
+    at: usize,
+    walked: &mut u64,
+)
     requires width { 0 < width }
     requires days { 0 < length days.old.items }
     requires at { at < length nodes.old.items }
@@ -57,15 +78,75 @@ pub(crate) fn link_item<T>(nodes: &mut Vec<Node<T>>, days: &mut Vec<Day>, width:
     ensures days { length days.new.items ≡ length days.old.items }
     ensures capacity { vec_capacity nodes.new ≡ vec_capacity nodes.old }
 {
-    link(nodes, days, width, at);
+    link(nodes, days, width, at, walked);
+}
+
+/// Takes all nodes out of the chains.
+fn clear(days: &mut [Day])
+    ensures { AreEmpty days.new }
+{
+    days.fill(NO_NODES);
+}
+
+/// Spreads the nodes over the table anew, with days of the width `first`, and answers the width.
+/// Where that takes more than `most` steps along chains, a narrower one is tried, down to 1.
+fn spread<T>(nodes: &mut [Node<T>], days: &mut [Day], first: u64, most: Option<u64>) -> u64
+    requires days { 0 < length days.old }
+    requires apart { IsApartAt (slot nodes.old) }
+    ensures width { 0 < result }
+    ensures linked { IsCalendar result nodes.new days.new }
+    ensures same { SameNodes nodes.old nodes.new }
+{
+    let mut width = first;
+    while width > 1 {
+        clear(days);
+        if relink(nodes, days, width, most) {
+            return width;
+        }
+        width /= CHANGE;
+    }
+    clear(days);
+    relink(nodes, days, 1, None);
+    1
+}
+
+/// Spreads the nodes over as many days as there are, as `spread` does.
+fn respread<T>(
+    nodes: &mut Vec<Node<T>>,
+    days: &mut Vec<Day>,
+    width: &mut u64,
+    first: u64,
+    most: Option<u64>,
+)
+    requires days { 0 < length days.old.items }
+    requires apart { IsApartAt (slot nodes.old.items) }
+    ensures width { 0 < width.new }
+    ensures days { length days.new.items ≡ length days.old.items }
+    ensures linked { IsCalendar width.new nodes.new.items days.new.items }
+    ensures same { SameNodes nodes.old.items nodes.new.items }
+    ensures capacity { vec_capacity nodes.new ≡ vec_capacity nodes.old }
+{
+    *width = spread(nodes, days, first, most);
+}
+
+/// How many steps are many for this table.
+fn many_steps<T>(nodes: &[Node<T>], days: &[Day]) -> u64 {
+    let places = (nodes.len() as u64).saturating_add(days.len() as u64);
+    places.saturating_mul(MANY)
 }
 
 /// Doubles the table where there are more than twice as many items as days, and spreads the nodes
-/// over it anew. Where there is no memory for that, the table stays.
-pub(crate) fn widen<T>(nodes: &mut Vec<Node<T>>, days: &mut Vec<Day>, width: &mut u64, count: usize)
+/// over it anew, by days of the width that spreads the times evenly, or by narrower ones where the
+/// chains would be long. Where there is no memory for that, the table stays.
+pub(crate) fn widen<T>(
+    nodes: &mut Vec<Node<T>>,
+    days: &mut Vec<Day>,
+    width: &mut u64,
+    steps: &mut Steps,
+    count: usize,
+)
     requires width { 0 < width.old }
     requires days { 0 < length days.old.items }
-    requires count { 0 < count }
     requires apart { IsApartAt (slot nodes.old.items) }
     requires linked { IsCalendar width.old nodes.old.items days.old.items }
     ensures width { 0 < width.new }
@@ -79,8 +160,41 @@ pub(crate) fn widen<T>(nodes: &mut Vec<Node<T>>, days: &mut Vec<Day>, width: &mu
     }
     let more = days.len().saturating_mul(2);
     if empty_table(days, more).is_ok() {
-        *width = width_for(nodes, count);
-        relink(nodes, days, *width);
+        let first = width_for(nodes, count);
+        let most = many_steps(nodes, days);
+        respread(nodes, days, width, first, Some(most));
+        *steps = NO_STEPS;
+    }
+}
+
+/// Spreads the nodes by narrower days or by wider ones, where calls took many steps since they were
+/// last spread. It takes no memory.
+pub(crate) fn balance<T>(
+    nodes: &mut Vec<Node<T>>,
+    days: &mut Vec<Day>,
+    width: &mut u64,
+    steps: &mut Steps,
+)
+    requires width { 0 < width.old }
+    requires days { 0 < length days.old.items }
+    requires apart { IsApartAt (slot nodes.old.items) }
+    requires linked { IsCalendar width.old nodes.old.items days.old.items }
+    ensures width { 0 < width.new }
+    ensures days { 0 < length days.new.items }
+    ensures linked { IsCalendar width.new nodes.new.items days.new.items }
+    ensures same { SameNodes nodes.old.items nodes.new.items }
+    ensures capacity { vec_capacity nodes.new ≡ vec_capacity nodes.old }
+{
+    let many = many_steps(nodes, days);
+    if steps.walked > many && *width > 1 {
+        respread(nodes, days, width, *width / CHANGE, None);
+        *steps = NO_STEPS;
+    } else if steps.searched > many {
+        respread(nodes, days, width, width.saturating_mul(CHANGE), None);
+        *steps = NO_STEPS;
+    } else {
+        steps.walked = steps.walked.saturating_sub(FEW);
+        steps.searched = steps.searched.saturating_sub(FEW);
     }
 }
 

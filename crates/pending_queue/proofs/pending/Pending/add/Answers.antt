@@ -1,8 +1,9 @@
-use Rattle.std.proofs.Common.{ap, subst, ◌∙◌}
+use Rattle.std.proofs.Common.{◌<◌, ap, subst, sym, ◌∙◌}
+use Rattle.std.specs.Prelude.{vec_capacity}
 use Rattle.event_order.specs.Pending.{put, Among}
 use Rattle.pending_queue.specs.Queue.{Queue}
-use Rattle.pending_queue.proofs.RelinkLemmas.{same_apart}
-use Rattle.pending_queue.proofs.QueueLemmas.{queue_next, sorted_after, occ_can, occ_apart, least_still, new_still}
+use Rattle.pending_queue.proofs.RelinkLemmas.{same_itself}
+use Rattle.pending_queue.proofs.QueueLemmas.{queue_next, sorted_after, occ_can, least_still, new_still, spare_some}
 use Rattle.pending_queue.proofs.pending.Pending.add.Goals as goal
 
 pub link_item-requires-clause-can : goal.link_item-requires-clause-can
@@ -18,20 +19,16 @@ pub earlier-self-inside-requires-clause-second : goal.earlier-self-inside-requir
 earlier-self-inside-requires-clause-second g c = new_still g.T.Keyed.key_of c.self.inside.nodes.items c.occupy-at.new.nodes.items c.link_item.new.nodes.items c.deref.result.now c.args.item c.key-key.result c.occupy-at.result
     c.occupy-at.ensures.occupies c.link_item.ensures.same c.deref.ensures.value
 
-pub widen-requires-clause-apart : goal.widen-requires-clause-apart
-widen-requires-clause-apart g c = same_apart c.occupy-at.new.nodes.items c.link_item.new.nodes.items c.link_item.ensures.same
-    (occ_apart g.T.Keyed.key_of c.self.inside.nodes.items c.occupy-at.new.nodes.items c.args.item c.key-key.result c.occupy-at.result c.occupy-at.ensures.occupies
-    c.key-key.ensures c.self.invariant.keyed c.self.invariant.apart (λ other a. c.requires.new other (subst (λ xs. Among other xs) (ap (λ (q : Queue g.row.T.Denot). q.items) c.self.view_is) a)))
-
 pub invariant_of-self : goal.invariant_of-self
-invariant_of-self g c = queue_next g.T.Keyed.key_of c.self.inside.nodes.items c.occupy-at.new.nodes.items c.link_item.new.nodes.items c.widen.new.nodes.items c.deref.result.now c.args.item c.key-key.result c.occupy-at.result
-    c.self.inside.count c.occupy-at.new.count c.self.inside.free c.occupy-at.new.free c.self.inside.least c.earlier-self-inside.result c.self.inside.days.items c.widen.new.days.items c.self.inside.width c.widen.new.width
+invariant_of-self g c = queue_next g.T.Keyed.key_of c.self.inside.nodes.items c.occupy-at.new.nodes.items c.link_item.new.nodes.items c.link_item.new.nodes.items c.deref.result.now c.args.item c.key-key.result c.occupy-at.result
+    c.self.inside.count c.occupy-at.new.count c.self.inside.free c.occupy-at.new.free c.self.inside.least c.earlier-self-inside.result c.self.inside.days.items c.link_item.new.days.items c.self.inside.width c.self.inside.width
     c.self.invariant c.key-key.ensures (λ other a. c.requires.new other (subst (λ xs. Among other xs) (ap (λ (q : Queue g.row.T.Denot). q.items) c.self.view_is) a))
-    c.occupy-at.ensures.occupies c.occupy-at.ensures.free c.occupy-at.ensures.count c.link_item.ensures.same c.deref.ensures.value c.earlier-self-inside.ensures.picks c.widen.ensures.same
-    c.widen.ensures.width c.widen.ensures.days c.widen.ensures.linked
+    c.occupy-at.ensures.occupies c.occupy-at.ensures.free c.occupy-at.ensures.count c.link_item.ensures.same c.deref.ensures.value c.earlier-self-inside.ensures.picks (same_itself c.link_item.new.nodes.items)
+    c.self.invariant.wide (subst (λ n. 0 < n) (sym c.link_item.ensures.days) (spare_some c.self.inside.days.items (vec_capacity c.self.inside.nodes) c.self.inside.count
+    (subst (λ (q : Queue g.row.T.Denot). 0 < q.spare) (sym c.self.view_is) c.requires.room))) c.link_item.ensures.linked
 
 pub returns-clause-items : goal.returns-clause-items
-returns-clause-items g c = sorted_after g.T.Keyed.key_of c.self.inside.nodes.items c.occupy-at.new.nodes.items c.link_item.new.nodes.items c.widen.new.nodes.items c.args.item c.key-key.result c.occupy-at.result
+returns-clause-items g c = sorted_after g.T.Keyed.key_of c.self.inside.nodes.items c.occupy-at.new.nodes.items c.link_item.new.nodes.items c.link_item.new.nodes.items c.args.item c.key-key.result c.occupy-at.result
     c.self.invariant.keyed c.self.invariant.apart c.key-key.ensures (λ other a. c.requires.new other (subst (λ xs. Among other xs) (ap (λ (q : Queue g.row.T.Denot). q.items) c.self.view_is) a))
-    c.occupy-at.ensures.occupies c.link_item.ensures.same c.widen.ensures.same
+    c.occupy-at.ensures.occupies c.link_item.ensures.same (same_itself c.link_item.new.nodes.items)
     ∙ ap (λ (q : Queue g.row.T.Denot). put g.T.Keyed.key_of c.args.item q.items) c.self.view_is

@@ -6,7 +6,7 @@ use Rattle.std.specs.Option.{is_some}
 use Rattle.pending_queue.specs.Queue.{Queue}
 use Rattle.pending_queue.proofs.NodeLemmas.{slot_key, next_or}
 use Rattle.pending_queue.proofs.QueueLemmas.{least_none, least_within, left_apart, left_linked, left_reached, left_sorted, left_queue, left_some, none_is, none_both, some_is, spare_left, days_some, count_most}
-use Rattle.pending_queue.proofs.pending.Pending.take_least.Goals as goal
+use Rattle.pending_queue.proofs.pending.Pending.remove_least.Goals as goal
 
 pub returns-in_err-at-clause-none : goal.returns-in_err-at-clause-none
 returns-in_err-at-clause-none g c = none_both c.from_residual.result c.args.self.now.items c.from_residual.ensures (sym (ap (λ (q : Queue g.row.T.Denot). q.items) c.self.view_is) ∙ least_none g.T.Keyed.key_of c.self.inside.nodes.items c.self.inside.least c.self.invariant.least_is c.in_err-at.was)
