@@ -1,4 +1,6 @@
+pub mod Beginnings
 pub mod Builders
+pub mod EachFile
 pub mod Grammars
 pub mod OneFault
 pub mod OneMeaning

@@ -12,7 +12,7 @@ use Rattle.dml_tree.specs.Attributes.{Attributes}
 use Rattle.dml_tree.specs.TreeView.{tree_of}
 use Rattle.dml_tree.specs.Grammar.{Spells, Begins, Wanted, key_wanted, value_wanted, most_open, refusal_of, end_refusal, Faulted}
 use Rattle.dml_tree.specs.Building.{Stands, brackets, wanted, Holds, IsRefusal, Builds}
-use Rattle.dml_tree.specs.Reading.{Reads, Answers, most_bytes}
+use Rattle.dml_tree.specs.Reading.{Reads, Answers, AnswersFault, most_bytes}
 use Rattle.dml_tree.proofs.Grammars.{begins}
 
 pub refused_builds : (file : ℕ) (bytes : List ℕ) (tokens : List Token) (i : ℕ) (d : Token) (b : Builder) (f : TreeFault) → i < length tokens → b.file ≡ file → Holds bytes (take i tokens) b → IsRefusal b.opened.items (wanted b.key) (get_or tokens i d) f → Builds file bytes tokens (Err f)
@@ -83,19 +83,23 @@ pub faulted_of_grammar : (file : ℕ) (bytes : List ℕ) (tokens : List Token) (
 faulted_of_grammar file bytes tokens f (inl r) = subst IfOfGrammar r.fault_is (refusal_of_grammar r.wanted r.opened r.token.kind r.token.from)
 faulted_of_grammar file bytes tokens f (inr u) = subst IfOfGrammar u.fault_is (end_of_grammar u.wanted u.opened (length bytes))
 
+meant : (Means : Result Attributes TreeFault → Type 0) (f : TreeFault) → Means (Err f) → AnswersFault Means f
+meant Means fault.Memory h = tt
+meant Means f h = h
+
 module _ (file : ℕ) (bytes : List ℕ) (tokens : List Token) (short : length bytes ≤ most_bytes) (spelt : Spelt bytes tokens) where
-  fault_answers : (f : TreeFault) → IsOfGrammar f → Faulted file bytes tokens f → Answers (Reads file bytes) (Err f)
-  fault_answers (fault.KeyWanted at) g h = record { short = short; tokens = tokens; spelt = spelt; faulted = h }
-  fault_answers (fault.ValueWanted at) g h = record { short = short; tokens = tokens; spelt = spelt; faulted = h }
-  fault_answers (fault.OpenList at) g h = record { short = short; tokens = tokens; spelt = spelt; faulted = h }
-  fault_answers (fault.StrayClose at) g h = record { short = short; tokens = tokens; spelt = spelt; faulted = h }
-  fault_answers (fault.NestedTooDeep at) g h = record { short = short; tokens = tokens; spelt = spelt; faulted = h }
-  fault_answers (fault.BadByte at) g h = absurd g
-  fault_answers (fault.OpenQuote at) g h = absurd g
-  fault_answers fault.TooLong g h = absurd g
-  fault_answers fault.Memory g h = absurd g
+  pub fault_reads : (f : TreeFault) → IsOfGrammar f → Faulted file bytes tokens f → Reads file bytes (Err f)
+  fault_reads (fault.KeyWanted at) g h = record { short = short; tokens = tokens; spelt = spelt; faulted = h }
+  fault_reads (fault.ValueWanted at) g h = record { short = short; tokens = tokens; spelt = spelt; faulted = h }
+  fault_reads (fault.OpenList at) g h = record { short = short; tokens = tokens; spelt = spelt; faulted = h }
+  fault_reads (fault.StrayClose at) g h = record { short = short; tokens = tokens; spelt = spelt; faulted = h }
+  fault_reads (fault.NestedTooDeep at) g h = record { short = short; tokens = tokens; spelt = spelt; faulted = h }
+  fault_reads (fault.BadByte at) g h = absurd g
+  fault_reads (fault.OpenQuote at) g h = absurd g
+  fault_reads fault.TooLong g h = absurd g
+  fault_reads fault.Memory g h = absurd g
 
   pub answers : (r : Result Attributes TreeFault) → Builds file bytes tokens r → Answers (Reads file bytes) r
   answers (Ok tree) h = record { short = short; tokens = tokens; spelt = spelt; spells = h }
   answers (Err f) (inl e) = subst (λ g. Answers (Reads file bytes) (Err g)) (sym e) tt
-  answers (Err f) (inr h) = fault_answers f (faulted_of_grammar file bytes tokens f h) h
+  answers (Err f) (inr h) = meant (Reads file bytes) f (fault_reads f (faulted_of_grammar file bytes tokens f h) h)
