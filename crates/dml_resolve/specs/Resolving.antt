@@ -2,7 +2,7 @@
 use Rattle.std.specs.Prelude.{ℕ, zero, suc, ◌+◌, ◌==◌, Bool, true, false, not, ◌&&◌, ◌||◌, if◌then◌else◌, nat_eq, nat_lt, List, [], ◌∷◌, ◌++◌, length, filter, codes, Option, Some, None, Result, Ok, Err}
 use Rattle.std.specs.Cmp.Lexicographic.{pointwise}
 use Rattle.dml_tree.specs.declared.tree.Place.{Place}
-use Rattle.dml_tree.specs.Attributes.{Attributes, none, plain, list}
+use Rattle.dml_tree.specs.Attributes.{Attributes, none, plain, list, weight}
 use Rattle.dml_resolve.specs.declared.resolving.PathFault.{PathFault}
 use Rattle.dml_resolve.specs.declared.resolving.PathFault.TheVariants as fault
 
@@ -25,17 +25,22 @@ most_weight = 1000000
 
 -- A path begins with `.` and has one or more components, none of them empty, with `.` between them.
 
+-- the component that is read, where the text ends
+abbrev pub last_component : List ℕ → Option (List (List ℕ))
+last_component [] = None
+last_component (b ∷ bs) = Some ((b ∷ bs) ∷ [])
+
+-- the component that is read, where others follow
+abbrev pub next_component : List ℕ → Option (List (List ℕ)) → Option (List (List ℕ))
+next_component [] others = None
+next_component (b ∷ bs) None = None
+next_component (b ∷ bs) (Some others) = Some ((b ∷ bs) ∷ others)
+
 -- the components of a text, given the bytes of the one that is read
 abbrev pub components_from : List ℕ → List ℕ → Option (List (List ℕ))
-components_from [] [] = None
-components_from (b ∷ bs) [] = Some ((b ∷ bs) ∷ [])
+components_from read [] = last_component read
 components_from read (byte ∷ text) =
     if byte == 46 then next_component read (components_from [] text) else components_from (read ++ byte ∷ []) text
-  where
-    next_component : List ℕ → Option (List (List ℕ)) → Option (List (List ℕ))
-    next_component [] found = None
-    next_component (b ∷ bs) None = None
-    next_component (b ∷ bs) (Some others) = Some ((b ∷ bs) ∷ others)
 
 abbrev pub components : List ℕ → Option (List (List ℕ))
 components [] = None
@@ -108,15 +113,20 @@ abbrev pub known : Place → List Entry → Counted (List Entry)
 known place [] = refuse (fault.UnknownPath place)
 known place (entry ∷ entries) = pure (entry ∷ entries)
 
--- the attributes of the last component's key, each component before it taking the first list of its key and
--- forming its level
+-- the attributes of a key, where there are some
+abbrev pub with_key : Place → List ℕ → List Entry → Counted (List Entry)
+with_key place key entries = known place (filter (same_key key) entries)
+
+-- the attributes that further components name: each of them is looked up in the level of the first list that was found
+abbrev pub named_from : Place → (Attributes → Counted (List Entry)) → List (List ℕ) → List Entry → Counted (List Entry)
+named_from place level [] found = pure found
+named_from place level (component ∷ components) found =
+    first_list place found >>= λ written. level written >>= λ inside. with_key place component inside >>= λ found. named_from place level components found
+
+-- the attributes that a path names, whose first component is looked up among these
 abbrev pub named : Place → (Attributes → Counted (List Entry)) → List (List ℕ) → List Entry → Counted (List Entry)
 named place level [] entries = refuse (fault.BadPath place)
-named place level (last ∷ []) entries = known place (filter (same_key last) entries)
-named place level (component ∷ (next ∷ others)) entries =
-    known place (filter (same_key component) entries) >>= λ found.
-    first_list place found >>= λ written.
-    level written >>= λ inside. named place level (next ∷ others) inside
+named place level (component ∷ components) entries = with_key place component entries >>= λ found. named_from place level components found
 
 -- the plain attributes written in a list, with what their lists are expanded to one level below
 abbrev pub plain_entries : (Attributes → Counted (List Entry)) → Attributes → List Entry
@@ -139,12 +149,13 @@ substituted root (Some level) written key place path =
     if is_find key then pure (moved level found)
     else (first_list place found >>= λ included. level included >>= λ entries. pure (filter (λ entry. not (has_plain written (entry_key entry))) entries))
 
+-- the path that a substitution follows
+abbrev pub path_or_fault : Place → Option (List (List ℕ)) → Counted (List (List ℕ))
+path_or_fault place None = refuse (fault.BadPath place)
+path_or_fault place (Some path) = pure path
+
 abbrev pub path_of : Place → List ℕ → Counted (List (List ℕ))
-path_of place text = path_or (components text)
-  where
-    path_or : Option (List (List ℕ)) → Counted (List (List ℕ))
-    path_or None = refuse (fault.BadPath place)
-    path_or (Some path) = pure path
+path_of place text = path_or_fault place (components text)
 
 -- The level of a list, attribute by attribute; `kept` says which lists are kept as written.
 abbrev pub level_from : Attributes → Option (Attributes → Counted (List Entry)) → (List ℕ → Bool) → Attributes → Attributes → Counted (List Entry)
@@ -157,10 +168,14 @@ level_from root below kept written (list key place inner rest) =
     else pure (list_entry key place inner (if kept key then pure inner else expand (level_from root below (λ _. false) inner inner)) ∷ [])) >>= λ entries.
     level_from root below kept written rest >>= λ others. pure (entries ++ others)
 
+-- the levels that a substitution may form, where so many may still be followed in one another
+unfoldable pub below : Attributes → ℕ → Option (Attributes → Counted (List Entry))
+below root zero = None
+below root (suc left) = Some (λ written. level_from root (below root left) (λ _. false) written written)
+
 -- the level of a list where so many substitutions may still be followed in one another
 abbrev pub level : Attributes → ℕ → Attributes → Counted (List Entry)
-level root zero written = level_from root None (λ _. false) written written
-level root (suc left) written = level_from root (Some (level root left)) (λ _. false) written written
+level root left written = level_from root (below root left) (λ _. false) written written
 
 -- an attribute `schemas` that is written in the root list is kept as it is
 abbrev pub is_schemas : List ℕ → Bool
@@ -171,5 +186,11 @@ result_of (Ok found) = Ok found.0
 result_of (Err reason) = Err reason
 
 -- the resolved tree, or the fault that is met first
-abbrev pub resolved : Attributes → Result Attributes PathFault
-resolved root = result_of (expand (level_from root (Some (level root 63)) is_schemas root root) 0)
+unfoldable pub resolved : Attributes → Result Attributes PathFault
+resolved root = result_of (expand (level_from root (below root most_nested) is_schemas root root) 0)
+
+-- how many attributes of a resolved tree are counted: all of them, but those in the lists `schemas` of the root
+abbrev pub counted_weight : Attributes → ℕ
+counted_weight none = 0
+counted_weight (plain key place text rest) = 1 + counted_weight rest
+counted_weight (list key place inner rest) = 1 + (if is_schemas key then 0 else weight inner) + counted_weight rest
