@@ -14,3 +14,6 @@ mod resolving;
 
 pub use places::{first, next};
 pub use resolving::{PathFault, resolve};
+
+#[cfg(test)]
+mod tests;
