@@ -1,6 +1,6 @@
 -- The attributes of a level as entries of the definition.
-use Rattle.std.proofs.Common.{◌≡◌, ℕ, ◌<◌, ◌≤◌, ◌+◌, suc, Bool, true, false, List, [], ◌∷◌, ◌++◌, length, get_or, drop, map, filter, All, refl, ap, sym, ◌∙◌, arith, add-one, append_assoc, drop_of_length-le}
-use Rattle.std.specs.Prelude.{nat_eq, not, ◌&&◌, ◌||◌, if◌then◌else◌, Ok, Err}
+use Rattle.std.proofs.Common.{◌≡◌, ℕ, ◌<◌, ◌≤◌, ◌+◌, suc, Bool, true, false, List, [], ◌∷◌, ◌++◌, length, get_or, drop, map, filter, refl, ap, sym, ◌∙◌, add-one, drop_of_length-le}
+use Rattle.std.specs.Prelude.{nat_eq, not, ◌&&◌, ◌||◌, if◌then◌else◌}
 use Rattle.std.specs.Cmp.Lexicographic.{pointwise}
 use Rattle.std.proofs.Math.Seq.{drop-cons}
 use Rattle.std.proofs.lemmas.List.Elements.{filter-append}
@@ -8,12 +8,12 @@ use Rattle.dml_tree.specs.declared.tree.Place.{Place}
 use Rattle.dml_tree.specs.declared.tree.Attribute.{Attribute}
 use Rattle.dml_tree.specs.declared.tree.Value.{Value}
 use Rattle.dml_tree.specs.declared.tree.Value.TheVariants as value
-use Rattle.dml_tree.specs.Attributes.{Attributes, none, plain, list, weight}
+use Rattle.dml_tree.specs.Attributes.{Attributes, none}
 use Rattle.dml_tree.specs.TreeView.{tree_of, with_value, attributes}
 use Rattle.dml_tree.proofs.TreeLists.{tree_of-attributes}
 use Rattle.dml_resolve.specs.declared.members.Member.{Member}
-use Rattle.dml_resolve.specs.Resolving.{Counted, pure, Entry, text_entry, list_entry, entry_key, same_key, has_plain, is_substitution, plain_entries, moved, expand, level, level_from, below}
-use Rattle.dml_resolve.specs.Members.{entry_from, entry_of, entries_of, is_keyed, is_missing, moved_to, plain_entry, plain_entry_by, value_weight, inner_weight, IsSmall}
+use Rattle.dml_resolve.specs.Resolving.{Counted, Entry, text_entry, list_entry, entry_key, same_key, has_plain, is_substitution, plain_entries, moved, expand, level}
+use Rattle.dml_resolve.specs.Members.{entry_from, entry_of, entries_of, is_keyed, is_missing, moved_to, plain_entry, plain_entry_by}
 
 -- an item, and those behind it
 pub drop_item : {A : Type 0} (xs : List A) (i : ℕ) (x : A) → i < length xs → x ≡ get_or xs i x → drop i xs ≡ x ∷ drop (i + 1) xs

@@ -1,5 +1,5 @@
 -- A level expanded attribute by attribute, and how much is counted.
-use Rattle.std.proofs.Common.{◌≡◌, ℕ, ◌<◌, ◌≤◌, ◌+◌, ◌-◌, ◌*◌, ◌⊎◌, inl, inr, suc, Bool, true, false, List, [], ◌∷◌, ◌++◌, length, get_or, drop, refl, ap, sym, ◌∙◌, arith, drop_of_length-le}
+use Rattle.std.proofs.Common.{◌≡◌, ℕ, ◌<◌, ◌≤◌, ◌+◌, ◌⊎◌, inl, inr, suc, Bool, true, false, List, [], ◌∷◌, ◌++◌, length, get_or, drop, refl, ap, sym, ◌∙◌, arith, drop_of_length-le}
 use Rattle.std.specs.Prelude.{if◌then◌else◌, Result, Ok, Err, IfOk, IfErr}
 use Rattle.dml_tree.specs.declared.tree.Place.{Place}
 use Rattle.dml_tree.specs.declared.tree.Attribute.{Attribute}
@@ -11,7 +11,7 @@ use Rattle.dml_tree.proofs.TreeLists.{tree_of-append}
 use Rattle.dml_resolve.specs.declared.members.Member.{Member}
 use Rattle.dml_resolve.specs.declared.resolving.PathFault.{PathFault}
 use Rattle.dml_resolve.specs.Resolving.{Counted, pure, and_then, ◌>>=◌, count, Entry, expand, expand_entries, level, is_schemas, counted_weight, most_nested, result_of, resolved}
-use Rattle.dml_resolve.specs.Members.{entry_from, entry_of, entries_of, value_of, value_by, value_weight, inner_weight, weight_at, level_at}
+use Rattle.dml_resolve.specs.Members.{entry_from, entries_of, value_of, value_by, value_weight, weight_at, level_at}
 use Rattle.dml_resolve.proofs.Entries.{drop_item}
 use Rattle.dml_resolve.proofs.LevelSteps.{Outcome, bind_ok, bind_err}
 

@@ -1,17 +1,17 @@
 -- A level attribute by attribute, and a substitution step by step.
-use Rattle.std.proofs.Common.{◌≡◌, ℕ, ◌<◌, ◌≤◌, ◌+◌, ◌-◌, suc, Bool, true, false, List, [], ◌∷◌, ◌++◌, length, get_or, drop, map, filter, All, refl, ap, sym, ◌∙◌, arith, append_assoc, append-nil}
-use Rattle.std.specs.Prelude.{nat_eq, not, ◌&&◌, if◌then◌else◌, Result, Ok, Err, OnOk, Option, Some, None}
+use Rattle.std.proofs.Common.{◌≡◌, ℕ, ◌<◌, ◌≤◌, ◌+◌, ◌-◌, suc, Bool, true, false, List, [], ◌∷◌, ◌++◌, length, get_or, drop, map, filter, refl, ap, sym, ◌∙◌, arith, append_assoc, append-nil}
+use Rattle.std.specs.Prelude.{not, ◌&&◌, if◌then◌else◌, Result, Ok, Err, OnOk, Some}
 use Rattle.dml_tree.specs.declared.tree.Place.{Place}
 use Rattle.dml_tree.specs.declared.tree.Attribute.{Attribute}
 use Rattle.dml_tree.specs.declared.tree.Value.{Value}
 use Rattle.dml_tree.specs.declared.tree.Value.TheVariants as value
-use Rattle.dml_tree.specs.Attributes.{Attributes, none, plain, list, weight}
-use Rattle.dml_tree.specs.TreeView.{tree_of, with_value, attributes}
+use Rattle.dml_tree.specs.Attributes.{Attributes}
+use Rattle.dml_tree.specs.TreeView.{tree_of, with_value}
 use Rattle.dml_resolve.specs.declared.members.Member.{Member}
 use Rattle.dml_resolve.specs.declared.resolving.PathFault.{PathFault}
 use Rattle.dml_resolve.specs.declared.resolving.PathFault.TheVariants as fault
 use Rattle.dml_resolve.specs.Resolving.{Counted, pure, refuse, and_then, ◌>>=◌, count, expand, Entry, text_entry, list_entry, entry_key, same_key, has_plain, is_find, is_substitution, is_schemas, plain_entries, moved, level, level_from, below, first_list, known, with_key, named, named_from, substituted, path_of, path_or_fault, components}
-use Rattle.dml_resolve.specs.Members.{entry_from, entry_of, entries_of, level_at, given, given_by, followed, followed_by, adds, is_keyed, is_missing, moved_to}
+use Rattle.dml_resolve.specs.Members.{entry_from, entries_of, given, given_by, followed, followed_by, adds, is_keyed, is_missing, moved_to}
 use Rattle.dml_resolve.proofs.Entries.{tree_item, tree_end, moved_all, keyed, missing, entries_of-append}
 
 abbrev pub Outcome : Type 0 → Type 0

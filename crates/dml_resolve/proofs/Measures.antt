@@ -1,5 +1,5 @@
 -- Inner lists are lighter than the lists that hold them.
-use Rattle.std.proofs.Common.{◌≡◌, ℕ, zero, suc, ◌<◌, ◌≤◌, ◌+◌, ◌*◌, ◌⊎◌, inl, inr, Bool, true, false, List, [], ◌∷◌, length, get_or, map, filter, All, refl, subst, ap, sym, ◌∙◌, arith}
+use Rattle.std.proofs.Common.{◌≡◌, ℕ, zero, suc, ◌<◌, ◌≤◌, ◌+◌, ◌*◌, ◌⊎◌, inl, inr, Bool, true, false, List, [], ◌∷◌, length, get_or, map, filter, All, refl, subst, ap, sym, arith}
 use Rattle.std.proofs.Math.Nat.{eq-or-lt_of_le, mul-le-mul_left}
 use Rattle.std.proofs.lemmas.List.Elements.{All-map, All-filter}
 use Rattle.dml_tree.specs.declared.tree.Place.{Place}
@@ -9,7 +9,6 @@ use Rattle.dml_tree.specs.declared.tree.Value.TheVariants as value
 use Rattle.dml_tree.specs.Attributes.{Attributes, weight}
 use Rattle.dml_tree.specs.TreeView.{tree_of, with_value, attributes}
 use Rattle.dml_resolve.specs.declared.members.Member.{Member}
-use Rattle.dml_resolve.specs.Resolving.{is_schemas}
 use Rattle.dml_resolve.specs.Members.{value_weight, inner_weight, moved_to, is_missing, IsSmall, IsWithin}
 use Rattle.dml_resolve.proofs.Entries.{tree_whole}
 

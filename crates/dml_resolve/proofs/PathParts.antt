@@ -1,10 +1,10 @@
 -- Components that are read, and those that follow.
-use Rattle.std.proofs.Common.{◌≡◌, ℕ, ◌<◌, ◌≤◌, ◌+◌, ◌-◌, suc, List, [], ◌∷◌, ◌++◌, length, get_or, drop, take, true, false, refl, ap, sym, ◌∙◌, arith, append_assoc, add-one, length-drop}
-use Rattle.std.specs.Prelude.{Option, Some, None, slice_range, nat_eq, if◌then◌else◌}
+use Rattle.std.proofs.Common.{◌≡◌, ℕ, ◌<◌, ◌≤◌, ◌+◌, ◌-◌, suc, List, [], ◌∷◌, ◌++◌, length, get_or, drop, take, refl, ap, sym, ◌∙◌, arith, append_assoc, add-one, length-drop}
+use Rattle.std.specs.Prelude.{Option, Some, None, slice_range, if◌then◌else◌}
 use Rattle.std.proofs.Math.Seq.{take-suc, drop-cons}
 use Rattle.std.proofs.lemmas.List.{get_or-drop, length-take}
 use Rattle.std.proofs.lemmas.Bool.{ne_eqb}
-use Rattle.dml_resolve.specs.Resolving.{components, components_from, next_component}
+use Rattle.dml_resolve.specs.Resolving.{components_from, next_component}
 
 -- these components, and then those that follow
 abbrev pub after : List (List ℕ) → Option (List (List ℕ)) → Option (List (List ℕ))

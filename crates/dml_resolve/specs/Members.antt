@@ -1,11 +1,11 @@
 -- What the attributes of a level stand for, and where they may lie.
-use Rattle.std.specs.Prelude.{◌≡◌, ℕ, ◌+◌, ◌<◌, ◌≤◌, Bool, true, false, not, ◌&&◌, if◌then◌else◌, nat_eq, List, [], ◌∷◌, ◌++◌, Result, Ok, Err}
+use Rattle.std.specs.Prelude.{◌≡◌, ℕ, ◌<◌, ◌≤◌, Bool, true, false, not, ◌&&◌, if◌then◌else◌, nat_eq, List, [], ◌∷◌, ◌++◌, Result, Ok, Err}
 use Rattle.std.specs.Cmp.Lexicographic.{pointwise}
 use Rattle.dml_tree.specs.declared.tree.Place.{Place}
 use Rattle.dml_tree.specs.declared.tree.Attribute.{Attribute}
 use Rattle.dml_tree.specs.declared.tree.Value.{Value}
 use Rattle.dml_tree.specs.declared.tree.Value.TheVariants as value
-use Rattle.dml_tree.specs.Attributes.{Attributes, none, plain, list, weight}
+use Rattle.dml_tree.specs.Attributes.{Attributes, weight}
 use Rattle.dml_resolve.specs.declared.members.Member.{Member}
 use Rattle.dml_resolve.specs.Resolving.{Counted, pure, refuse, ◌>>=◌, Entry, text_entry, list_entry, expand, level, level_from, below, is_schemas, is_substitution, substituted, path_of, has_plain, counted_weight}
 use Rattle.dml_resolve.specs.declared.resolving.PathFault.{PathFault}

@@ -1,4 +1,4 @@
-use Rattle.std.proofs.Common.{◌≡◌, ◌++◌, [], drop, ap, sym, ◌∙◌, arith, append-nil, drop_of_length-le}
+use Rattle.std.proofs.Common.{◌++◌, ap, sym, ◌∙◌, arith, append-nil, drop_of_length-le}
 use Rattle.dml_tree.specs.TreeView.{tree_of}
 use Rattle.dml_tree.proofs.TreeLists.{inner_lighter}
 use Rattle.dml_resolve.proofs.Entries.{tree_whole}

@@ -1,8 +1,8 @@
-use Rattle.std.proofs.Common.{◌≡◌, ◌<◌, ◌≤◌, ◌+◌, ◌++◌, ◌∷◌, [], inr, length, true, refl, drop, ap, sym, ◌∙◌, arith}
-use Rattle.std.specs.Prelude.{Ok, if◌then◌else◌}
+use Rattle.std.proofs.Common.{◌≡◌, ◌+◌, ◌++◌, ◌∷◌, [], inr, true, refl, drop, ap, sym, ◌∙◌, arith}
+use Rattle.std.specs.Prelude.{Ok}
 use Rattle.std.proofs.lemmas.Result.{err_from_is_err_and}
 use Rattle.dml_tree.specs.declared.tree.Attribute.{Attribute}
-use Rattle.dml_tree.specs.Attributes.{none, weight}
+use Rattle.dml_tree.specs.Attributes.{weight}
 use Rattle.dml_tree.specs.TreeView.{tree_of}
 use Rattle.dml_resolve.specs.Resolving.{count, expand_entries, is_schemas}
 use Rattle.dml_resolve.specs.Members.{entries_of, inner_weight, level_at, value_weight, weight_at}

@@ -1,19 +1,17 @@
-use Rattle.std.proofs.Common.{◌≡◌, ℕ, suc, ◌<◌, ◌≤◌, ◌+◌, ◌-◌, ◌++◌, ◌∷◌, [], ◌⊎◌, inl, inr, subst, List, Vec, Global, Bor, Bool, true, false, length, get_or, add-one, drop, map, filter, All, refl, ap, sym, ◌∙◌, arith, drop_of_length-le}
-use Rattle.std.specs.Prelude.{◌&&◌, Option, Some, None, Ok, Err}
+use Rattle.std.proofs.Common.{◌≡◌, ℕ, suc, ◌<◌, ◌+◌, ◌-◌, ◌++◌, ◌∷◌, ◌⊎◌, inl, inr, subst, List, Vec, Global, Bor, true, false, length, get_or, add-one, drop, map, filter, All, refl, ap, sym, ◌∙◌, arith, drop_of_length-le}
+use Rattle.std.specs.Prelude.{◌&&◌, Option, Some, Err}
 use Rattle.std.specs.Option.{option_map}
 use Rattle.std.proofs.Math.Seq.{drop-cons}
 use Rattle.std.proofs.lemmas.Result.{err_from_is_err_and}
 use Rattle.std.proofs.lemmas.List.Elements.{All-append, All-filter}
-use Rattle.dml_tree.specs.declared.tree.Value.{Value}
 use Rattle.dml_tree.specs.declared.tree.Place.{Place}
 use Rattle.dml_tree.specs.Attributes.{Attributes, weight}
 use Rattle.dml_resolve.specs.declared.members.Member.{Member}
-use Rattle.dml_tree.specs.TreeView.{tree_of}
 use Rattle.dml_resolve.specs.Resolving.{first_list, same_key, is_find, is_substitution, is_schemas, components, level, plain_entries, named, named_from}
-use Rattle.dml_resolve.specs.Members.{entries_of, level_at, adds, is_keyed, is_missing, moved_to, IsWithin, IsSmall}
-use Rattle.dml_resolve.proofs.Entries.{tree_whole, drop_item}
+use Rattle.dml_resolve.specs.Members.{entries_of, is_keyed, is_missing, moved_to, IsWithin, IsSmall}
+use Rattle.dml_resolve.proofs.Entries.{tree_whole}
 use Rattle.dml_resolve.proofs.Measures.{lighter, find_within, included_within, small_within}
-use Rattle.dml_resolve.proofs.LevelSteps.{on_ok, levels, levels_step, levels_fault, levels_end, adds_none, given_plain, followed_named, followed_found, followed_find, followed_list_fault, followed_level_fault, followed_extends, bind_err, ending, named_first, named_step, named_list_fault, named_level_fault, named_unknown, keyed_some}
+use Rattle.dml_resolve.proofs.LevelSteps.{on_ok, levels, levels_step, levels_fault, levels_end, given_plain, followed_named, followed_found, followed_find, followed_list_fault, followed_level_fault, followed_extends, bind_err, named_first, named_step, named_list_fault, named_level_fault, named_unknown, keyed_some}
 use Rattle.dml_resolve.proofs.levels.+levels.Goals as goal
 
 or_fault : {M P Q : Type 0} → (P → Q) → M ⊎ P → M ⊎ Q

@@ -1,4 +1,4 @@
-use Rattle.std.proofs.Common.{◌≡◌, ℕ, ◌≤◌, drop, All}
+use Rattle.std.proofs.Common.{◌≡◌, ℕ, drop, All}
 use Rattle.dml_tree.specs.Attributes.{Attributes}
 use Rattle.dml_resolve.specs.Resolving.{first_list}
 use Rattle.dml_resolve.specs.Members.{entries_of, IsSmall}

@@ -1,7 +1,6 @@
 use Rattle.std.proofs.Common.{◌≡◌, true, false, ap, sym, ◌∙◌}
 use Rattle.std.specs.Prelude.{nat_eq}
 use Rattle.std.specs.Cmp.Lexicographic.{pointwise}
-use Rattle.dml_tree.specs.TreeView.{tree_of}
 use Rattle.dml_resolve.specs.Resolving.{has_plain, is_substitution}
 use Rattle.dml_resolve.proofs.Entries.{has_plain_at, plain_there, tree_end, tree_whole}
 use Rattle.dml_resolve.proofs.members.has_plain.Goals as goal

@@ -1,4 +1,4 @@
-use Rattle.std.proofs.Common.{◌≡◌, ◌+◌, ◌++◌, filter, drop, ap, sym, ◌∙◌, append_assoc, append-nil}
+use Rattle.std.proofs.Common.{◌+◌, ◌++◌, filter, drop, ap, sym, ◌∙◌, append_assoc, append-nil}
 use Rattle.dml_tree.specs.Attributes.{weight}
 use Rattle.dml_tree.specs.TreeView.{tree_of}
 use Rattle.dml_resolve.specs.Resolving.{plain_entries, level, same_key}
