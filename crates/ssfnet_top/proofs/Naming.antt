@@ -1,13 +1,12 @@
 -- The plan of a ring, and the entries of its run.
-use Rattle.std.proofs.Common.{ℕ, ◌≡◌, ◌<◌, ◌≤◌, ◌+◌, ◌∙◌, sym, ap, subst, refl, List, length, Option, Some, None, Bool, true, false, Ok, Err, All, arith, suc, inl, inr, ◌⊎◌, cond, nat_lt}
+use Rattle.std.proofs.Common.{ℕ, ◌≡◌, ◌<◌, ◌≤◌, ◌+◌, ◌∙◌, sym, ap, subst, refl, List, length, Bool, true, false, Ok, Err, All, arith, suc, cond, nat_lt}
 use Rattle.std.specs.List.{list_any}
 use Rattle.event_machine.specs.Machine.{within}
 use Rattle.dml_tree.specs.declared.tree.Attribute.{Attribute}
-use Rattle.net_graph.specs.declared.fault.ShapeFault.{ShapeFault}
 use Rattle.net_graph.specs.declared.fault.ShapeFault.TheVariants.{DelayTooLong, TooManyChannels}
 use Rattle.ssf_model.specs.declared.event.Entry.{Entry}
 use Rattle.ssf_model.specs.declared.plan.Plan.{Plan}
-use Rattle.ssf_model.specs.Reaction.{LatestTime, LongestDelay}
+use Rattle.ssf_model.specs.Reaction.{LatestTime}
 use Rattle.ssf_model.specs.Drafts.{planned, MostChannels}
 use Rattle.ring_model.specs.declared.ring.Ring.{Ring}
 use Rattle.ring_model.specs.declared.ring.RingState.{RingState}

@@ -1,14 +1,12 @@
 -- One word more of a walk.
-use Rattle.std.proofs.Common.{ℕ, ◌≡◌, ◌∙◌, sym, ap, refl, List, [], ◌∷◌, ◌++◌, append_assoc, append-nil, take-append-drop, drop-cons, ◌<◌, ◌≤◌, ◌&&◌, nat_le, codes, arith, length, get_or, take, drop, suc, filter, string_bytes, String, Option, Some, None, true, false, Bool, cond, map}
+use Rattle.std.proofs.Common.{ℕ, ◌≡◌, ◌∙◌, sym, ap, refl, List, [], ◌∷◌, ◌++◌, append_assoc, append-nil, take-append-drop, drop-cons, ◌<◌, length, get_or, take, drop, suc, filter, string_bytes, String, Option, Some, None, true, map}
 use Rattle.std.specs.Option.{option_map}
-use Rattle.std.specs.List.{list_all}
 use Rattle.std.specs.declared.alloc.Global.{Global}
 use Rattle.std.proofs.lemmas.List.Elements.{filter-append}
 use Rattle.std.proofs.lemmas.List.{map-append}
-use Rattle.std.proofs.lemmas.List.Folds.{list_all-map}
 use Rattle.ssfnet_top.specs.GivenOption.{texts_of}
-use Rattle.ssfnet_top.specs.Words.{Assigned, Walked, assigned, with_file, with_option, behind, walked_on, is_plain_word, values_of, same_text, is_seq_option, once, at_most_once, LatestUntil, LargestBudget, DefaultBudget, MostFiles, Seq, seq_of}
-use Rattle.ssfnet_top.specs.Numbers.{number_within}
+use Rattle.ssfnet_top.specs.Words.{Assigned, assigned, with_file, with_option, is_plain_word, values_of, same_text}
+use Rattle.ssfnet_top.specs.WordWalk.{Walked, behind, walked_on}
 
 file_behind : (os : List (List ℕ × List ℕ)) (fs : List (List ℕ)) (word : List ℕ) (a : Option Assigned)
     → option_map (behind (record { options = os; files = fs; pending = None })) (option_map (with_file word) a)
@@ -75,19 +73,3 @@ given_again name os i o a within is same before =
           ∙ (ap (λ (front : List (List ℕ)). front ++ values_of name (texts_of o ∷ map texts_of (drop (suc i) os))) before
           ∙ ap (λ (back : List (List ℕ)). a ∷ back) here))),
     )
-
--- what `seq` is asked, from each part
-pub seq_some : (options : List (List ℕ × List ℕ)) (files : List (List ℕ)) (until budget : ℕ) → list_all is_seq_option options ≡ true
-    → 1 ≤ length files → length files ≤ MostFiles
-    → once (number_within 0 LatestUntil) (values_of (codes "--until") options) ≡ Some until
-    → at_most_once DefaultBudget (number_within 1 LargestBudget) (values_of (codes "--budget") options) ≡ Some budget
-    → (let asked : Seq = record { until = until; budget = budget; files = files } in seq_of (record { options = options; files = files }) ≡ Some asked)
-seq_some options files until budget known some few first second =
-    let least : nat_le 1 (length files) ≡ true = grind arith in
-    let most : nat_le (length files) MostFiles ≡ true = grind arith in
-    rw (known, least, most, first, second) refl
-
--- an option that it does not know
-pub seq_none : (options : List (List ℕ × List ℕ)) (files : List (List ℕ)) → list_all is_seq_option options ≡ false
-    → seq_of (record { options = options; files = files }) ≡ None
-seq_none options files unknown = rw unknown refl

@@ -1,5 +1,9 @@
+pub mod Absent
+pub mod Ending
 pub mod GivenOption
 pub mod Numbers
+pub mod Outcome
 pub mod Refusals
 pub mod Sending
+pub mod WordWalk
 pub mod Words

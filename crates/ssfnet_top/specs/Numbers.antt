@@ -1,5 +1,5 @@
 -- Numbers among the words of a command: in decimal, without sign and without leading zeros.
-use Rattle.std.specs.Prelude.{ℕ, ◌+◌, ◌*◌, ◌-◌, ◌^◌, Bool, nat_eq, nat_le, ◌&&◌, ◌||◌, not, if◌then◌else◌, List, length, fold, slice_index, Option, Some, None}
+use Rattle.std.specs.Prelude.{ℕ, ◌+◌, ◌*◌, ◌-◌, Bool, nat_eq, nat_le, ◌&&◌, ◌||◌, not, if◌then◌else◌, List, length, fold, slice_index, Option, Some, None}
 use Rattle.std.specs.List.{list_all}
 
 abbrev pub is_digit : ℕ → Bool

@@ -1,5 +1,5 @@
 -- What the program answers where it does not end well: the status, and the line on `err`.
-use Rattle.std.specs.Prelude.{ℕ, nat_lt, if◌then◌else◌, List, [], ◌∷◌, ◌++◌, map, codes, decimal}
+use Rattle.std.specs.Prelude.{ℕ, nat_lt, if◌then◌else◌, List, ◌∷◌, ◌++◌, map, codes, decimal}
 use Rattle.ssfnet_top.specs.declared.refusal.Refusal.{Refusal}
 use Rattle.ssfnet_top.specs.declared.refusal.Refusal.TheVariants.{Memory, Words, Read, Dml, NotYet, Shape, Write, Budget}
 use Rattle.dml_tree.specs.declared.reading.TreeFault.{TreeFault}

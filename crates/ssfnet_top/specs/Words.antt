@@ -1,8 +1,10 @@
 -- The words of a command, after the program's name: the command, and then options and file names in any order.
-use Rattle.std.specs.Prelude.{ℕ, ◌==◌, Bool, nat_eq, nat_le, ◌&&◌, ◌||◌, not, if◌then◌else◌, cond, List, [], ◌∷◌, ◌++◌, length, filter, map, fold, slice_index, codes, Option, Some, None}
+use Rattle.std.specs.Prelude.{ℕ, ◌≤◌, Bool, nat_eq, nat_le, ◌&&◌, ◌||◌, not, if◌then◌else◌, cond, List, [], ◌∷◌, length, filter, map, slice_index, codes, Option, Some, None}
 use Rattle.std.specs.Option.{option_map, option_and_then}
 use Rattle.std.specs.List.{list_all}
 use Rattle.std.specs.Cmp.Lexicographic.{pointwise}
+use Rattle.ssfnet_top.specs.declared.command.Command.{Command}
+use Rattle.ssfnet_top.specs.declared.command.Command.TheVariants as commands
 use Rattle.ssfnet_top.specs.Numbers.{number_within}
 
 -- two texts are the same
@@ -55,12 +57,6 @@ at_most_once default reads [] = Some default
 at_most_once default reads (value ∷ []) = reads value
 at_most_once default reads (value ∷ other ∷ values) = None
 
--- what `seq` is asked
-pub record Seq : Type 0 where
-  pub until : ℕ
-  pub budget : ℕ
-  pub files : List (List ℕ)
-
 abbrev pub LatestUntil : ℕ
 LatestUntil = 1000000000000000000
 
@@ -73,32 +69,47 @@ DefaultBudget = 1000000000
 abbrev pub MostFiles : ℕ
 MostFiles = 64
 
--- the options that `seq` knows
+-- `dml` has no options
+abbrev pub dml_of : List (List ℕ × List ℕ) → Option Command
+dml_of options = if nat_eq (length options) 0 then Some commands.Dml else None
+
+-- `seq` has `--until`, and perhaps `--budget`
 abbrev pub is_seq_option : List ℕ × List ℕ → Bool
 is_seq_option o = same_text o.0 (codes "--until") || same_text o.0 (codes "--budget")
 
-abbrev pub seq_of : Assigned → Option Seq
-seq_of a = cond (list_all is_seq_option a.options && (nat_le 1 (length a.files) && nat_le (length a.files) MostFiles))
-    (option_and_then (λ until. option_map (λ budget. record { until = until; budget = budget; files = a.files })
-    (at_most_once DefaultBudget (number_within 1 LargestBudget) (values_of (codes "--budget") a.options)))
-    (once (number_within 0 LatestUntil) (values_of (codes "--until") a.options)))
-    None
+abbrev pub seq_of : List (List ℕ × List ℕ) → Option Command
+seq_of options =
+    if list_all is_seq_option options
+    then option_and_then (λ until. option_map (λ budget. commands.Seq until budget)
+    (at_most_once DefaultBudget (number_within 1 LargestBudget) (values_of (codes "--budget") options)))
+    (once (number_within 0 LatestUntil) (values_of (codes "--until") options))
+    else None
+
+-- the command of this name with these options
+abbrev pub command_of : List ℕ → List (List ℕ × List ℕ) → Option Command
+command_of name options =
+    if same_text name (codes "dml") then dml_of options
+    else if same_text name (codes "seq") then seq_of options
+    else None
+
+-- what is asked: a command and its files
+pub record Asked : Type 0 where
+  pub command : Command
+  pub files : List (List ℕ)
+
+-- a command has 1 to 64 files
+abbrev pub asked_of : List ℕ → Assigned → Option Asked
+asked_of name a =
+    if nat_le 1 (length a.files) && nat_le (length a.files) MostFiles
+    then option_map (λ c. record { command = c; files = a.files }) (command_of name a.options)
+    else None
 
 -- what these words ask, where they are words of a command
-abbrev pub seq_of_words : List (List ℕ) → Option Seq
-seq_of_words [] = None
-seq_of_words (command ∷ words) = cond (same_text command (codes "seq")) (option_and_then seq_of (assigned None words)) None
+abbrev pub asked_of_words : List (List ℕ) → Option Asked
+asked_of_words [] = None
+asked_of_words (name ∷ words) = option_and_then (asked_of name) (assigned None words)
 
--- a walk over the words: what was assigned so far, and the option whose value stands next
-pub record Walked : Type 0 where
-  pub options : List (List ℕ × List ℕ)
-  pub files : List (List ℕ)
-  pub pending : Option (List ℕ)
-
--- what stands before these words is put in front
-abbrev pub behind : Walked → Assigned → Assigned
-behind w a = record { options = w.options ++ a.options; files = w.files ++ a.files }
-
--- what a walk and the words that follow give together
-abbrev pub walked_on : Walked → List (List ℕ) → Option Assigned
-walked_on w words = option_map (behind w) (assigned w.pending words)
+-- the numbers that a command is asked lie in their ranges
+abbrev pub IsInRange : Command → Type 0
+IsInRange commands.Dml = Unit {0}
+IsInRange (commands.Seq until budget) = (until ≤ LatestUntil) × (1 ≤ budget) × (budget ≤ LargestBudget)

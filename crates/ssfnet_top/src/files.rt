@@ -1,7 +1,9 @@
-//! The files of a model: read, parsed and joined to one tree.
-ghost use Rattle.std.specs.Prelude.{◌≡◌, ◌≤◌, ◌<◌, ◌^◌, ◌⊎◌, length, IfErr};
+//! The files of a command: read, parsed and joined to one tree.
+ghost use Rattle.std.specs.Prelude.{◌≡◌, ◌≤◌, ◌<◌, ◌^◌, ◌⊎◌, ◌∷◌, [], length, map, string_bytes, IfErr, IfSome, IsErrAnd};
 ghost use Rattle.sim_base.specs.Outside.{Rose};
 ghost use Rattle.ssfnet_top.specs.Refusals.{status_of};
+ghost use Rattle.ssfnet_top.specs.Outcome.{IsFileRead, AreRead};
+ghost use Rattle.ssfnet_top.specs.Ending.{IsOfFiles};
 
 use crate::Refusal;
 use dml_tree::{Tree, TreeFault, join, read};
@@ -18,7 +20,8 @@ fn read_tree<L: Library>(
     number: u32,
     name: &str,
 ) -> Result<Tree, Refusal>
-    ensures statuses { IfErr result (λ r. (status_of r ≡ 1) ⊎ ((status_of r ≡ 3) ⊎ (status_of r ≡ 4))) }
+    ensures file { IsErrAnd result (λ r. (r ≡ Refusal.Memory) ⊎ (status_of r ≡ 3)) ⊎ IfSome (L.files library.old) (λ told. IsFileRead told number name.now result) }
+    ensures cause { IfErr result (λ r. IsOfFiles (name.now ∷ []) r) }
     ensures read { IfErr result (λ r. status_of r ≡ 3 → Rose (L.faults library.old) (L.faults library.new)) }
     ensures never_falls { L.faults library.old ≤ L.faults library.new }
     ensures same_files { L.files library.new ≡ L.files library.old }
@@ -38,9 +41,9 @@ fn read_tree<L: Library>(
     }
 }
 
-/// The refusal of a file that is no DML.
+/// The refusal of a file with this fault.
 fn no_dml(alloc: Global, name: &str, fault: TreeFault) -> Refusal
-    ensures { (status_of result ≡ 1) ⊎ (status_of result ≡ 4) }
+    ensures { (result ≡ Refusal.Memory) ⊎ (result ≡ Refusal.Dml name.now fault) }
 {
     match Text::of(alloc, name.as_bytes()) {
         Ok(file) => Refusal::Dml { file, fault },
@@ -59,7 +62,8 @@ pub fn read_files<L: Library>(
     names: &[String],
 ) -> Result<Tree, Refusal>
     requires { length names.now < 2 ^ 32 }
-    ensures statuses { IfErr result (λ r. (status_of r ≡ 1) ⊎ ((status_of r ≡ 3) ⊎ (status_of r ≡ 4))) }
+    ensures files { IsErrAnd result (λ r. (r ≡ Refusal.Memory) ⊎ (status_of r ≡ 3)) ⊎ IfSome (L.files library.old) (λ told. AreRead told 0 (map string_bytes names.now) result) }
+    ensures cause { IfErr result (λ r. IsOfFiles (map string_bytes names.now) r) }
     ensures read { IfErr result (λ r. status_of r ≡ 3 → Rose (L.faults library.old) (L.faults library.new)) }
     ensures never_falls { L.faults library.old ≤ L.faults library.new }
     ensures same_files { L.files library.new ≡ L.files library.old }

@@ -1,23 +1,30 @@
 //! The commands of the program: from words and files to the bytes written and the status.
 //!
-//! Contracts cite `specs/Words.antt` (what words ask), `specs/Numbers.antt` (numbers among them),
-//! `specs/Refusals.antt` (statuses and the lines on `err`) and `specs/Sending.antt` (texts that are
-//! sent in pieces).
+//! The whole meaning of a call is `IsOutcome` of `specs/Outcome.antt`: from words and the files that
+//! the library tells to the status and the bytes that are due; `specs/Ending.antt` says how a call
+//! ends, measured by that. They cite `specs/Words.antt` (what words ask), `specs/Numbers.antt`
+//! (numbers among them), `specs/Absent.antt` (parts of models that are not read yet) and
+//! `specs/Refusals.antt` (statuses and the lines on `err`). `specs/Sending.antt` is of texts that are
+//! sent in pieces, and `specs/WordWalk.antt` of the walk over the words.
 #![tactic(auto)]
 
 mod absent;
+mod command;
 mod files;
+pub mod laws;
 mod number;
+mod printing;
 mod refusal;
 mod sending;
 mod seq;
 mod top;
 mod words;
 
+pub use command::Command;
 pub use number::read_number;
 pub use refusal::Refusal;
 pub use top::offline;
-pub use words::{SeqRequest, WordsFault, read_words};
+pub use words::{Request, WordsFault, read_words};
 
 #[cfg(test)]
 mod tests;

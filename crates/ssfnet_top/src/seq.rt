@@ -1,15 +1,16 @@
 //! The command `seq`: the plan of a model, its run by one event list, and the trace.
-ghost use Rattle.std.specs.Prelude.{◌≡◌, ◌≤◌, ◌<◌, ◌⊎◌, length, All, IfOk, IfErr, OnOk, OnErr};
-ghost use Rattle.ring_model.specs.Reacting.{IsRing, AnyPayload};
+ghost use Rattle.std.specs.Prelude.{◌≡◌, ◌≤◌, ◌<◌, ◌⊎◌, [], length, All, IfOk, IfErr, OnOk, OnErr};
+ghost use Rattle.ring_model.specs.Reacting.{IsRing, AnyPayload, ring_reaction};
 ghost use Rattle.global_list.specs.Healthy.{IsRunnable};
 ghost use Rattle.ssfnet_top.specs.Words.{LatestUntil, LargestBudget};
 ghost use Rattle.sim_base.specs.Outside.{Rose, Appends, AppendsPrefix};
 ghost use Rattle.trace_writer.specs.Trace.{entries_text, trace_text};
-ghost use Rattle.ssfnet_top.specs.Refusals.{status_of};
+ghost use Rattle.ssfnet_top.specs.Outcome.{model_of, IsRunDue, IsModelRun};
+ghost use Rattle.ssfnet_top.specs.Ending.{Answers, IsOfModel, IsOfCommand};
 
-use crate::Refusal;
 use crate::absent::has_absent_part;
 use crate::sending::{SendEnd, flush, send_entries};
+use crate::{Command, Refusal};
 use dml_tree::Tree;
 use global_list::{Single, SingleEnd, run_single};
 use net_build::{Built, ring_plan};
@@ -20,17 +21,44 @@ use ssf_model::{Entry, Names};
 use std::alloc::Global;
 use trace_writer::end_line;
 
+/// Runs the model of a tree, which was read from so many files, by one event list up to `until`, in
+/// ticks, and at most `budget` events, and writes the trace.
+///
+/// # Errors
+/// `NotYet` and `Shape` for a model that has no plan, `Budget` where its run has more events, `Write`
+/// only where the sink's `faults` rose, and `Memory`.
+pub fn run_model<K: Sink>(
+    alloc: Global,
+    until: u64,
+    budget: u64,
+    files: usize,
+    tree: &Tree,
+    out: &mut K,
+) -> Result<(), Refusal>
+    requires until { until ≤ LatestUntil }
+    requires least { 1 ≤ budget }
+    requires budget { budget ≤ LargestBudget }
+    ensures due { Answers (IsModelRun until budget (model_of files tree.now)) result (K.faults out.old) (K.faults out.new) (K.held out.old) (K.held out.new) }
+    ensures cause { IfErr result (λ r. IsOfCommand (Command.Seq until budget) r) }
+    ensures write { IfErr result (λ r. r ≡ Refusal.Write → Rose (K.faults out.old) (K.faults out.new)) }
+    ensures nothing { IfErr result (λ r. IsOfModel r → ¬ (r ≡ Refusal.Memory) → Appends [] (K.held out.old) (K.held out.new)) }
+{
+    match build_ring(alloc, files, tree) {
+        Ok(built) => simulate(alloc, built, until, budget, out),
+        Err(refusal) => Err(refusal),
+    }
+}
+
 /// The plan of the ring that is the model of a tree, which was read from so many files.
-pub fn build_ring(alloc: Global, files: usize, tree: &Tree) -> Result<Built<Ring>, Refusal>
+fn build_ring(alloc: Global, files: usize, tree: &Tree) -> Result<Built<Ring>, Refusal>
+    ensures model { IfOk result (λ built. model_of files tree.now ≡ Ok built) }
+    ensures cause { IfErr result (λ r. (r ≡ Refusal.Memory) ⊎ (model_of files tree.now ≡ Err r)) }
+    ensures refusal { IfErr result (λ r. IsOfModel r) }
     ensures runnable { IfOk result (λ built. IsRunnable IsRing AnyPayload built.plan) }
     ensures named { IfOk result (λ built. length built.names.names ≡ length built.plan.entities) }
     ensures before { IfOk result (λ built. built.plan.before ≡ 0) }
-    ensures statuses { IfErr result (λ r. (status_of r ≡ 1) ⊎ (status_of r ≡ 6)) }
 {
-    if files > 1 {
-        return Err(Refusal::NotYet);
-    }
-    if has_absent_part(tree) {
+    if has_absent_part(files, tree) {
         return Err(Refusal::NotYet);
     }
     match ring_plan(alloc, tree) {
@@ -44,8 +72,8 @@ pub fn build_ring(alloc: Global, files: usize, tree: &Tree) -> Result<Built<Ring
 /// the trace.
 ///
 /// # Errors
-/// `Write` only where the sink's `faults` rose; `Budget` where the run has more events; `Memory`.
-pub fn simulate<K: Sink>(
+/// `Budget` where the run has more events, `Write` only where the sink's `faults` rose, `Memory`.
+fn simulate<K: Sink>(
     alloc: Global,
     built: Built<Ring>,
     until: u64,
@@ -58,8 +86,9 @@ pub fn simulate<K: Sink>(
     requires until { until ≤ LatestUntil }
     requires least { 1 ≤ budget }
     requires budget { budget ≤ LargestBudget }
-    ensures statuses { IfErr result (λ r. (status_of r ≡ 1) ⊎ ((status_of r ≡ 7) ⊎ (status_of r ≡ 8))) }
-    ensures write { IfErr result (λ r. status_of r ≡ 7 → Rose (K.faults out.old) (K.faults out.new)) }
+    ensures due { Answers (IsRunDue ring_reaction built.plan built.names until budget) result (K.faults out.old) (K.faults out.new) (K.held out.old) (K.held out.new) }
+    ensures cause { IfErr result (λ r. (r ≡ Refusal.Memory) ⊎ ((r ≡ Refusal.Write) ⊎ (r ≡ Refusal.Budget budget))) }
+    ensures write { IfErr result (λ r. r ≡ Refusal.Write → Rose (K.faults out.old) (K.faults out.new)) }
 {
     let Built {
         plan,
@@ -71,10 +100,10 @@ pub fn simulate<K: Sink>(
     let entries = entries.as_slice();
     match end {
         SingleEnd::Memory => Err(Refusal::Memory),
-        SingleEnd::OverBudget => {
-            write_records(alloc, &names, entries, out)?;
-            Err(Refusal::Budget(budget))
-        }
+        SingleEnd::OverBudget => match write_records(alloc, &names, entries, out) {
+            Ok(()) => Err(Refusal::Budget(budget)),
+            Err(refusal) => Err(refusal),
+        },
         SingleEnd::Finished => {
             let count = before + entries.len() as u64;
             write_trace(alloc, &names, entries, until, count, out)

@@ -24,6 +24,8 @@ const HELD: &str =
 const FIRST: &str =
     "ring [ nodes 3 token 0 token 1 hop [ from 0 to 2 delay 4 priority 7 ] hop [ from 1 to 2 delay 4 ] ]";
 
+const MORE: &str = "c[d\"\" _find .x]";
+
 const ENDLESS: &str = "ring [ nodes 1 token 0 hop [ from 0 to 0 delay 0 ] ]";
 
 fn split_words(alloc: Global, text: &str) -> Result<Vec<String>, Fail> {
@@ -44,6 +46,10 @@ fn library_of(alloc: Global, model: &str) -> Result<MemoryLibrary, Fail> {
     ))?;
     files.push((Text::of(alloc, b"empty.dml")?, Text::of(alloc, b"")?))?;
     files.push((Text::of(alloc, b"bad.dml")?, Text::of(alloc, b"]")?))?;
+    files.push((
+        Text::of(alloc, b"more.dml")?,
+        Text::of(alloc, MORE.as_bytes())?,
+    ))?;
     Ok(MemoryLibrary::new(files, Vec::new(alloc)))
 }
 
@@ -61,7 +67,7 @@ fn check_case(rt: &(impl Abort + AllocGlobal), case: &Case) -> Result<(), Fail> 
 }
 
 /// The worked examples: rings, budgets, words, and models and files with faults.
-const CASES: [Case; 38] = [
+const CASES: [Case; 55] = [
     Case {
         words: "seq --until 10 m.dml",
         model: TWO,
@@ -328,6 +334,125 @@ const CASES: [Case; 38] = [
         out: "E 0 0 0 0 0\nend 1 1\n",
         err: "",
     },
+    Case {
+        words: "dml m.dml",
+        model: TWO,
+        status: 0,
+        out: "ring [\n  nodes 2\n  token 0\n  hop [\n    from 0\n    to 1\n    delay 5\n  ]\n  hop [\n    from 1\n    to 0\n    delay 3\n  ]\n]\n",
+        err: "",
+    },
+    Case {
+        words: "dml m.dml more.dml",
+        model: TWO,
+        status: 0,
+        out: "ring [\n  nodes 2\n  token 0\n  hop [\n    from 0\n    to 1\n    delay 5\n  ]\n  hop [\n    from 1\n    to 0\n    delay 3\n  ]\n]\nc [\n  d \"\"\n  _find .x\n]\n",
+        err: "",
+    },
+    Case {
+        words: "dml more.dml m.dml more.dml",
+        model: "a b",
+        status: 0,
+        out: "c [\n  d \"\"\n  _find .x\n]\na b\nc [\n  d \"\"\n  _find .x\n]\n",
+        err: "",
+    },
+    Case {
+        words: "dml m.dml",
+        model: "",
+        status: 0,
+        out: "",
+        err: "",
+    },
+    Case {
+        words: "dml m.dml",
+        model: "a [ b \"x y\" # c",
+        status: 4,
+        out: "",
+        err: "dml m.dml OpenList 2\n",
+    },
+    Case {
+        words: "dml m.dml",
+        model: "a",
+        status: 4,
+        out: "",
+        err: "dml m.dml ValueWanted 1\n",
+    },
+    Case {
+        words: "dml m.dml",
+        model: "]",
+        status: 4,
+        out: "",
+        err: "dml m.dml StrayClose 0\n",
+    },
+    Case {
+        words: "dml m.dml",
+        model: "\"k\" v",
+        status: 4,
+        out: "",
+        err: "dml m.dml KeyWanted 0\n",
+    },
+    Case {
+        words: "dml m.dml",
+        model: "a \"x",
+        status: 4,
+        out: "",
+        err: "dml m.dml OpenQuote 2\n",
+    },
+    Case {
+        words: "dml m.dml",
+        model: "\x01",
+        status: 4,
+        out: "",
+        err: "dml m.dml BadByte 0\n",
+    },
+    Case {
+        words: "dml m.dml",
+        model: "a [ ]]",
+        status: 4,
+        out: "",
+        err: "dml m.dml StrayClose 5\n",
+    },
+    Case {
+        words: "dml m.dml bad.dml none.dml",
+        model: TWO,
+        status: 4,
+        out: "",
+        err: "dml bad.dml StrayClose 0\n",
+    },
+    Case {
+        words: "dml m.dml none.dml bad.dml",
+        model: TWO,
+        status: 3,
+        out: "",
+        err: "read none.dml\n",
+    },
+    Case {
+        words: "dml no\x01ne.dml",
+        model: TWO,
+        status: 3,
+        out: "",
+        err: "read no?ne.dml\n",
+    },
+    Case {
+        words: "dml",
+        model: TWO,
+        status: 2,
+        out: "",
+        err: "words\n",
+    },
+    Case {
+        words: "dml --flat m.dml",
+        model: TWO,
+        status: 2,
+        out: "",
+        err: "words\n",
+    },
+    Case {
+        words: "dml --until 3 m.dml",
+        model: TWO,
+        status: 2,
+        out: "",
+        err: "words\n",
+    },
 ];
 
 #[test]
@@ -338,21 +463,67 @@ fn worked_examples(rt: HostRuntime) -> Result<(), Fail> {
     Ok(())
 }
 
+/// Runs the command with an `out` that fails at its write number `call`, and looks that it holds a
+/// part of what is due.
+fn check_failing(
+    rt: &(impl Abort + AllocGlobal),
+    words: &str,
+    due: &[u8],
+    call: u64,
+) -> Result<(), Fail> {
+    let alloc = rt.alloc();
+    let words = split_words(alloc, words)?;
+    let mut library = library_of(alloc, TWO)?;
+    let mut out = MemorySink::new(alloc, 9, 4096, vec![in alloc; call]?)?;
+    let mut err = MemorySink::new(alloc, 9, 4096, Vec::new(alloc))?;
+    let status = offline(alloc, words.as_slice(), &mut library, &mut out, &mut err);
+    assert_eq!(rt; status, 7);
+    assert_eq!(rt; out.faults(), 1);
+    assert!(rt; due.starts_with(out.bytes()));
+    assert_eq!(rt; out.bytes().len() as u64, call.wrapping_mul(9));
+    assert!(rt; err.bytes() == b"write\n".as_slice());
+    Ok(())
+}
+
 #[test]
 fn failing_sinks_keep_a_part(rt: HostRuntime) -> Result<(), Fail> {
-    let alloc = rt.alloc();
-    let due = b"E 0 0 0 0 0\nE 0 0 1 0 1\nE 5 0 2 0 1\nE 8 0 3 0 0\nend 10 4\n";
-    let words = split_words(alloc, "seq --until 10 m.dml")?;
+    let trace = b"E 0 0 0 0 0\nE 0 0 1 0 1\nE 5 0 2 0 1\nE 8 0 3 0 0\nend 10 4\n";
+    let printing =
+        b"ring [\n  nodes 2\n  token 0\n  hop [\n    from 0\n    to 1\n    delay 5\n  ]\n  hop [\n    from 1\n    to 0\n    delay 3\n  ]\n]\n";
     for call in 0..7u64 {
-        let mut library = library_of(alloc, TWO)?;
-        let mut out = MemorySink::new(alloc, 9, 4096, vec![in alloc; call]?)?;
-        let mut err = MemorySink::new(alloc, 9, 4096, Vec::new(alloc))?;
-        let status = offline(alloc, words.as_slice(), &mut library, &mut out, &mut err);
-        assert_eq!(rt; status, 7);
-        assert_eq!(rt; out.faults(), 1);
-        assert!(rt; due.starts_with(out.bytes()));
-        assert!(rt; err.bytes() == b"write\n".as_slice());
+        check_failing(&rt, "seq --until 10 m.dml", trace, call)?;
+        check_failing(&rt, "dml m.dml", printing, call)?;
     }
+    Ok(())
+}
+
+#[test]
+fn failed_writes_end_with_their_status(rt: HostRuntime) -> Result<(), Fail> {
+    let alloc = rt.alloc();
+    let words = split_words(alloc, "dml m.dml")?;
+    let mut library = library_of(alloc, TWO)?;
+    let mut out = MemorySink::new(alloc, 9, 64, vec![in alloc; 0]?)?;
+    let mut err = MemorySink::new(alloc, 9, 64, vec![in alloc; 0]?)?;
+    let status = offline(alloc, words.as_slice(), &mut library, &mut out, &mut err);
+    assert_eq!(rt; status, 7);
+    assert_eq!(rt; err.faults(), 1);
+    Ok(())
+}
+
+#[test]
+fn long_files_are_refused(rt: HostRuntime) -> Result<(), Fail> {
+    let alloc = rt.alloc();
+    let words = split_words(alloc, "dml m.dml")?;
+    let mut files = Vec::new(alloc);
+    let blanks = vec![in alloc; b' '; 16_777_217]?;
+    files.push((Text::of(alloc, b"m.dml")?, Text::from_vec(blanks)))?;
+    let mut library = MemoryLibrary::new(files, Vec::new(alloc));
+    let mut out = MemorySink::new(alloc, 9, 64, Vec::new(alloc))?;
+    let mut err = MemorySink::new(alloc, 9, 64, Vec::new(alloc))?;
+    let status = offline(alloc, words.as_slice(), &mut library, &mut out, &mut err);
+    assert_eq!(rt; status, 4);
+    assert!(rt; out.bytes().is_empty());
+    assert!(rt; err.bytes() == b"dml m.dml TooLong 16777216\n".as_slice());
     Ok(())
 }
 

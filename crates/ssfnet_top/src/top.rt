@@ -1,17 +1,23 @@
 //! The top call: from words and files to the bytes written and the status.
-ghost use Rattle.std.specs.Prelude.{◌≡◌, ◌≤◌, ◌⊎◌, ◌++◌, ◌∷◌, [], None, map, string_bytes, IfOk, IfErr, IsErrAnd, OnOk};
-ghost use Rattle.sim_base.specs.Outside.{Rose, Appends};
+ghost use Rattle.std.specs.Prelude.{◌≡◌, ◌≤◌, ◌⊎◌, ◌++◌, ◌∷◌, [], None, Some, map, string_bytes, IfOk, IfErr, IfSome, IsErrAnd, OnOk};
+ghost use Rattle.sim_base.specs.Outside.{Rose, Appends, AppendsPrefix};
 ghost use Rattle.ssfnet_top.specs.declared.refusal.Refusal.{Refusal as RefusalValue};
-ghost use Rattle.ssfnet_top.specs.Words.{seq_of_words, LatestUntil, LargestBudget};
+ghost use Rattle.ssfnet_top.specs.Words.{asked_of_words, IsInRange, MostFiles};
 ghost use Rattle.ssfnet_top.specs.Refusals.{status_of, line_of};
+ghost use Rattle.ssfnet_top.specs.Outcome.{IsCommandDue, IsOutcome, refusal_line};
+ghost use Rattle.ssfnet_top.specs.Ending.{Ends, Concerns, Answers, IsReadFault, IsOfCommand, IsOfModel, IsTold};
 
-use crate::Refusal;
 use crate::files::read_files;
-use crate::seq::{build_ring, simulate};
-use crate::words::{SeqRequest, WordsFault, read_words};
+use crate::printing::print_tree;
+use crate::seq::run_model;
+use crate::words::{Request, WordsFault, read_words};
+use crate::{Command, Refusal};
 use dml_tree::Tree;
 use sim_base::{Library, Sink, write_all};
 use std::alloc::Global;
+
+/// The status with which the program ends where there was no memory.
+const MEMORY_STATUS: u8 = 1;
 
 /// The status with which the program ends where a sink failed.
 const WRITE_STATUS: u8 = 7;
@@ -30,12 +36,16 @@ pub fn offline<L: Library, K: Sink, J: Sink>(
     out: &mut K,
     err: &mut J,
 ) -> u8
-    ensures words_only { result ≡ 2 → seq_of_words (map string_bytes words.now) ≡ None }
-    ensures words_all { seq_of_words (map string_bytes words.now) ≡ None → (result ≡ 1) ⊎ ((result ≡ 2) ⊎ (result ≡ 7)) }
+    ensures outcome { IfSome (L.files library.old) (λ told. Ends told (map string_bytes words.now) result
+        (record { read_faults = L.faults library.old; out_faults = K.faults out.old; err_faults = J.faults err.old; out = K.held out.old; err = J.held err.old })
+        (record { read_faults = L.faults library.new; out_faults = K.faults out.new; err_faults = J.faults err.new; out = K.held out.new; err = J.held err.new })) }
+    ensures words_only { result ≡ 2 → asked_of_words (map string_bytes words.now) ≡ None }
+    ensures words_all { asked_of_words (map string_bytes words.now) ≡ None → (result ≡ 1) ⊎ ((result ≡ 2) ⊎ (result ≡ 7)) }
     ensures read { result ≡ 3 → Rose (L.faults library.old) (L.faults library.new) }
     ensures write { result ≡ 7 → Rose (K.faults out.old) (K.faults out.new) ⊎ Rose (J.faults err.old) (J.faults err.new) }
     ensures nothing { 2 ≤ result → result ≤ 6 → Appends [] (K.held out.old) (K.held out.new) }
-    ensures line { (result ≡ 0) ⊎ ((result ≡ 7) ⊎ ((r : RefusalValue) × (status_of r ≡ result) × Appends (line_of r ++ 10 ∷ []) (J.held err.old) (J.held err.new))) }
+    ensures quiet { result ≡ 0 → Appends [] (J.held err.old) (J.held err.new) }
+    ensures line { (result ≡ 0) ⊎ ((result ≡ 7) ⊎ ((r : RefusalValue) × (status_of r ≡ result) × Concerns (asked_of_words (map string_bytes words.now)) r × Appends (refusal_line r) (J.held err.old) (J.held err.new))) }
 {
     match answer(alloc, words, library, out) {
         Ok(()) => 0,
@@ -43,79 +53,83 @@ pub fn offline<L: Library, K: Sink, J: Sink>(
     }
 }
 
-/// Reads the words and the files.
-fn load<L: Library>(
-    alloc: Global,
-    words: &[String],
-    library: &mut L,
-) -> Result<(SeqRequest, Tree), Refusal>
-    ensures statuses { IfErr result (λ r. ((status_of r ≡ 1) ⊎ (status_of r ≡ 2)) ⊎ ((status_of r ≡ 3) ⊎ (status_of r ≡ 4))) }
-    ensures words_only { IfErr result (λ r. status_of r ≡ 2 → seq_of_words (map string_bytes words.now) ≡ None) }
-    ensures words_all { seq_of_words (map string_bytes words.now) ≡ None → IsErrAnd result (λ r. (status_of r ≡ 1) ⊎ (status_of r ≡ 2)) }
-    ensures read { IfErr result (λ r. status_of r ≡ 3 → Rose (L.faults library.old) (L.faults library.new)) }
-    ensures until { IfOk result (λ loaded. loaded.0.until ≤ LatestUntil) }
-    ensures budget { IfOk result (λ loaded. (1 ≤ loaded.0.budget) × (loaded.0.budget ≤ LargestBudget)) }
-{
-    let request = match read_words(alloc, words) {
-        Ok(request) => request,
-        Err(WordsFault::Words) => return Err(Refusal::Words),
-        Err(WordsFault::Memory) => return Err(Refusal::Memory),
-    };
-    match read_files(alloc, library, request.files.as_slice()) {
-        Ok(tree) => Ok((request, tree)),
-        Err(refusal) => Err(refusal),
-    }
-}
-
-/// Answers a command.
+/// Answers a command, but for the line of a refusal.
 fn answer<L: Library, K: Sink>(
     alloc: Global,
     words: &[String],
     library: &mut L,
     out: &mut K,
 ) -> Result<(), Refusal>
-    ensures range { IfErr result (λ r. (1 ≤ status_of r) × (status_of r ≤ 8)) }
-    ensures words_only { IfErr result (λ r. status_of r ≡ 2 → seq_of_words (map string_bytes words.now) ≡ None) }
-    ensures words_all { seq_of_words (map string_bytes words.now) ≡ None → IsErrAnd result (λ r. (status_of r ≡ 1) ⊎ (status_of r ≡ 2)) }
+    ensures outcome { IfSome (L.files library.old) (λ told. Answers (IsOutcome told (map string_bytes words.now)) result (K.faults out.old) (K.faults out.new) (K.held out.old) (K.held out.new)
+        ⊎ IsReadFault (asked_of_words (map string_bytes words.now)) result (L.faults library.old) (L.faults library.new) (K.held out.old) (K.held out.new)) }
+    ensures concerns { IfErr result (λ r. Concerns (asked_of_words (map string_bytes words.now)) r) }
+    ensures words { asked_of_words (map string_bytes words.now) ≡ None → IsErrAnd result (λ r. (r ≡ Refusal.Memory) ⊎ (r ≡ Refusal.Words)) }
     ensures read { IfErr result (λ r. status_of r ≡ 3 → Rose (L.faults library.old) (L.faults library.new)) }
-    ensures write { IfErr result (λ r. status_of r ≡ 7 → Rose (K.faults out.old) (K.faults out.new)) }
+    ensures write { IfErr result (λ r. r ≡ Refusal.Write → Rose (K.faults out.old) (K.faults out.new)) }
     ensures nothing { IfErr result (λ r. 2 ≤ status_of r → status_of r ≤ 6 → Appends [] (K.held out.old) (K.held out.new)) }
 {
-    let (request, tree) = match load(alloc, words, library) {
-        Ok(loaded) => loaded,
-        Err(refusal) => return Err(refusal),
+    let request = match read_words(alloc, words) {
+        Ok(request) => request,
+        Err(WordsFault::Words) => return Err(Refusal::Words),
+        Err(WordsFault::Memory) => return Err(Refusal::Memory),
     };
-    let built = match build_ring(alloc, request.files.len(), &tree) {
-        Ok(built) => built,
-        Err(refusal) => return Err(refusal),
-    };
-    simulate(alloc, built, request.until, request.budget, out)
+    let Request { command, files } = request;
+    let names = files.as_slice();
+    match read_files(alloc, library, names) {
+        Ok(tree) => act(alloc, command, names.len(), &tree, out),
+        Err(refusal) => Err(refusal),
+    }
+}
+
+/// Does what a command asks with the joined tree of so many files.
+fn act<K: Sink>(
+    alloc: Global,
+    command: Command,
+    files: usize,
+    tree: &Tree,
+    out: &mut K,
+) -> Result<(), Refusal>
+    requires { IsInRange command }
+    ensures due { Answers (IsCommandDue command files tree.now) result (K.faults out.old) (K.faults out.new) (K.held out.old) (K.held out.new) }
+    ensures cause { IfErr result (λ r. IsOfCommand command r) }
+    ensures write { IfErr result (λ r. r ≡ Refusal.Write → Rose (K.faults out.old) (K.faults out.new)) }
+    ensures nothing { IfErr result (λ r. IsOfModel r → ¬ (r ≡ Refusal.Memory) → Appends [] (K.held out.old) (K.held out.new)) }
+{
+    match command {
+        Command::Dml => print_tree(alloc, tree, out),
+        Command::Seq { until, budget } => run_model(alloc, until, budget, files, tree, out),
+    }
 }
 
 /// Writes the line of a refusal, and answers the status with which the program ends.
 fn tell<J: Sink>(alloc: Global, refusal: &Refusal, err: &mut J) -> u8
-    ensures status { (result ≡ status_of refusal.now) ⊎ ((result ≡ 1) ⊎ ((result ≡ 7) × Rose (J.faults err.old) (J.faults err.new))) }
-    ensures line { (result ≡ 7) ⊎ ((r : RefusalValue) × (status_of r ≡ result) × Appends (line_of r ++ 10 ∷ []) (J.held err.old) (J.held err.new)) }
+    ensures { IsTold refusal.now result (J.faults err.old) (J.faults err.new) (J.held err.old) (J.held err.new) }
 {
-    let mut line = Vec::new(alloc);
-    let told = match refusal.push_line(&mut line) {
-        Ok(()) => write_all(err, line.as_slice()),
-        Err(_memory) => return tell_memory(err),
-    };
-    match told {
-        Ok(()) => refusal.status(),
-        Err(_failed) => WRITE_STATUS,
+    match refusal {
+        Refusal::Memory => say(b"memory\n", MEMORY_STATUS, err),
+        Refusal::Write => say(b"write\n", WRITE_STATUS, err),
+        _ => tell_cause(alloc, refusal, err),
     }
 }
 
-/// Says that there was no memory.
-#[tactic(auto, unfolding(crate::specs::Refusals::line_of))]
-fn tell_memory<J: Sink>(err: &mut J) -> u8
-    ensures status { (result ≡ 1) ⊎ ((result ≡ 7) × Rose (J.faults err.old) (J.faults err.new)) }
-    ensures line { (result ≡ 7) ⊎ ((result ≡ 1) × Appends (line_of RefusalValue.Memory ++ 10 ∷ []) (J.held err.old) (J.held err.new)) }
+/// Makes the line of a refusal and writes it; without memory for it, says so.
+fn tell_cause<J: Sink>(alloc: Global, refusal: &Refusal, err: &mut J) -> u8
+    requires { ¬ (refusal.now ≡ Refusal.Write) }
+    ensures { IsTold refusal.now result (J.faults err.old) (J.faults err.new) (J.held err.old) (J.held err.new) }
 {
-    match write_all(err, b"memory\n") {
-        Ok(()) => 1,
+    let mut line = Vec::new(alloc);
+    match refusal.push_line(&mut line) {
+        Ok(()) => say(line.as_slice(), refusal.status(), err),
+        Err(_memory) => say(b"memory\n", MEMORY_STATUS, err),
+    }
+}
+
+/// Writes a line, and answers this status where it was written.
+fn say<J: Sink>(line: &[u8], status: u8, err: &mut J) -> u8
+    ensures { ((result ≡ status) × Appends line.now (J.held err.old) (J.held err.new)) ⊎ ((result ≡ WRITE_STATUS) × Rose (J.faults err.old) (J.faults err.new)) }
+{
+    match write_all(err, line) {
+        Ok(()) => status,
         Err(_failed) => WRITE_STATUS,
     }
 }

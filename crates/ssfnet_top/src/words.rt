@@ -1,11 +1,12 @@
 //! The words of a command: which are options with values, which are files, and what they ask.
 ghost use Rattle.std.specs.Prelude.{◌≡◌, ◌≤◌, ◌∷◌, vec_len, ℕ, List, Bool, map, string_bytes, IfOk, IfSome, IfNone, OnOk, IsErrOf, None, Some};
-ghost use Rattle.ssfnet_top.specs.Words.{same_text, begins_with_dash, is_plain_word, assigned, Walked, walked_on, is_seq_option, values_of, once, at_most_once, seq_of, seq_of_words, LatestUntil, LargestBudget, MostFiles};
+ghost use Rattle.ssfnet_top.specs.Words.{same_text, begins_with_dash, is_plain_word, assigned, is_seq_option, values_of, once, at_most_once, dml_of, seq_of, command_of, asked_of, asked_of_words, IsInRange, MostFiles};
+ghost use Rattle.ssfnet_top.specs.WordWalk.{walked_on};
 ghost use Rattle.ssfnet_top.specs.GivenOption.{texts_of, IsGiven};
 ghost use Rattle.std.specs.List.{list_all};
 ghost use Rattle.ssfnet_top.specs.Numbers.{number_within};
 
-use crate::read_number;
+use crate::{Command, read_number};
 use std::alloc::{AllocError, AllocFailed, Global};
 use std::marker::Model;
 
@@ -62,7 +63,7 @@ struct Walk {
 impl Model for Walk {
     ghost use Rattle.std.specs.Prelude.{map, string_bytes};
     ghost use Rattle.std.specs.Option.{option_map};
-    ghost use Rattle.ssfnet_top.specs.Words.{Walked};
+    ghost use Rattle.ssfnet_top.specs.WordWalk.{Walked};
 
     ghost Value = { Walked };
 
@@ -211,41 +212,45 @@ fn are_known(options: &[(String, String)]) -> bool
     options.iter().all(|option| is_known(option))
 }
 
-/// What `seq` is asked: the end time in ticks, the most events, and the names of the files.
+/// What `seq` is asked by its options.
+fn seq_of(options: &[(String, String)]) -> Option<Command>
+    ensures command { result ≡ seq_of (map texts_of options.now) }
+    ensures range { IfSome result (λ c. IsInRange c) }
+{
+    if !are_known(options) {
+        return None;
+    }
+    let until = number_once(options, "--until", 0, LATEST_UNTIL)?;
+    let budget = number_or(options, "--budget", DEFAULT_BUDGET, 1, LARGEST_BUDGET)?;
+    Some(Command::Seq { until, budget })
+}
+
+/// The command of this name with these options.
+fn command_of(name: &str, options: &[(String, String)]) -> Option<Command>
+    ensures command { result ≡ command_of name.now (map texts_of options.now) }
+    ensures range { IfSome result (λ c. IsInRange c) }
+{
+    if name == "dml" {
+        return options.is_empty().then_some(Command::Dml);
+    }
+    if name == "seq" {
+        return seq_of(options);
+    }
+    None
+}
+
+/// What the words ask: a command, and the names of its files.
 #[derive(Drop)]
-pub struct SeqRequest {
-    pub until: u64,
-    pub budget: u64,
+pub struct Request {
+    pub command: Command,
     pub files: Vec<String>,
 }
 
-/// Reads the words after the program's name.
-///
-/// # Errors
-/// `Words` exactly where they are no words of a command, and `Memory`.
-pub fn read_words(alloc: Global, words: &[String]) -> Result<SeqRequest, WordsFault>
-    ensures ok { IfOk result (λ r. seq_of_words (map string_bytes words.now) ≡ Some (record { until = r.until; budget = r.budget; files = map string_bytes r.files.items })) }
-    ensures words { IsErrOf result WordsFault.Words → seq_of_words (map string_bytes words.now) ≡ None }
-    ensures until { IfOk result (λ r. r.until ≤ LatestUntil) }
-    ensures budget { IfOk result (λ r. (1 ≤ r.budget) × (r.budget ≤ LargestBudget)) }
-    ensures files { IfOk result (λ r. vec_len r.files ≤ MostFiles) }
-{
-    let Some((command, others)) = words.split_first() else {
-        return Err(WordsFault::Words);
-    };
-    if command.as_str() != "seq" {
-        return Err(WordsFault::Words);
-    }
-    let walk = walk_over(alloc, others)?;
-    seq_request(walk).ok_or(WordsFault::Words)
-}
-
-/// What assigned words ask of `seq`.
-fn seq_request(walk: Walk) -> Option<SeqRequest>
-    ensures some { IfSome result (λ r. seq_of (record { options = walk.options; files = walk.files }) ≡ Some (record { until = r.until; budget = r.budget; files = map string_bytes r.files.items })) }
-    ensures none { IfNone result (seq_of (record { options = walk.options; files = walk.files }) ≡ None) }
-    ensures until { IfSome result (λ r. r.until ≤ LatestUntil) }
-    ensures budget { IfSome result (λ r. (1 ≤ r.budget) × (r.budget ≤ LargestBudget)) }
+/// What a command's name and the words assigned behind it ask.
+fn request_of(name: &str, walk: Walk) -> Option<Request>
+    ensures some { IfSome result (λ r. asked_of name.now (record { options = walk.options; files = walk.files }) ≡ Some (record { command = r.command; files = map string_bytes r.files.items })) }
+    ensures none { IfNone result (asked_of name.now (record { options = walk.options; files = walk.files }) ≡ None) }
+    ensures range { IfSome result (λ r. IsInRange r.command) }
     ensures files { IfSome result (λ r. vec_len r.files ≤ MostFiles) }
 {
     let Walk {
@@ -253,17 +258,26 @@ fn seq_request(walk: Walk) -> Option<SeqRequest>
         files,
         pending: _,
     } = walk;
-    if !are_known(&options) {
-        return None;
-    }
     if files.is_empty() || files.len() > MOST_FILES {
         return None;
     }
-    let until = number_once(&options, "--until", 0, LATEST_UNTIL)?;
-    let budget = number_or(&options, "--budget", DEFAULT_BUDGET, 1, LARGEST_BUDGET)?;
-    Some(SeqRequest {
-        until,
-        budget,
-        files,
-    })
+    let command = command_of(name, options.as_slice())?;
+    Some(Request { command, files })
+}
+
+/// Reads the words after the program's name.
+///
+/// # Errors
+/// `Words` exactly where they are no words of a command, and `Memory`.
+pub fn read_words(alloc: Global, words: &[String]) -> Result<Request, WordsFault>
+    ensures ok { IfOk result (λ r. asked_of_words (map string_bytes words.now) ≡ Some (record { command = r.command; files = map string_bytes r.files.items })) }
+    ensures words { IsErrOf result WordsFault.Words → asked_of_words (map string_bytes words.now) ≡ None }
+    ensures range { IfOk result (λ r. IsInRange r.command) }
+    ensures files { IfOk result (λ r. vec_len r.files ≤ MostFiles) }
+{
+    let Some((name, others)) = words.split_first() else {
+        return Err(WordsFault::Words);
+    };
+    let walk = walk_over(alloc, others)?;
+    request_of(name.as_str(), walk).ok_or(WordsFault::Words)
 }

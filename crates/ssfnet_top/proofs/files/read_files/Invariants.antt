@@ -1,8 +1,10 @@
-use Rattle.std.proofs.Common.{◌≡◌, ◌≤◌}
+use Rattle.std.proofs.Common.{◌≡◌, ◌≤◌, IfSome}
+use Rattle.ssfnet_top.proofs.FilesRead.{Decides}
 use Rattle.ssfnet_top.proofs.files.read_files.Given as goal
 
 abbrev pub invariant-loop-number : goal.invariant-loop-number
 invariant-loop-number g l = record {
   later : g.L.Library.faults l.fn.library ≤ g.L.Library.faults l.library;
   same : g.L.Library.files l.library ≡ g.L.Library.files l.fn.library;
+  told : IfSome (g.L.Library.files l.fn.library) (λ told. Decides told l.names l.number l.root);
 }

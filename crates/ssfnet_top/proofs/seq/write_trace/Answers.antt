@@ -1,4 +1,3 @@
-use Rattle.std.proofs.Common.{◌≡◌, subst, sym, ap}
 use Rattle.ssfnet_top.proofs.Pieces.{part_more, part_longer, part_from, sends_end, sends_part, sends_from, trace_is}
 use Rattle.ssfnet_top.proofs.seq.write_trace.Goals as goal
 

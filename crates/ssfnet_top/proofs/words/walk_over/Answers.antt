@@ -1,4 +1,4 @@
-use Rattle.std.proofs.Common.{◌≡◌, ℕ, List, Err, ap}
+use Rattle.std.proofs.Common.{◌≡◌, Err, ap}
 use Rattle.ssfnet_top.specs.declared.words.WordsFault.{WordsFault}
 use Rattle.ssfnet_top.specs.declared.words.WordsFault.TheVariants.{Words}
 use Rattle.ssfnet_top.proofs.Walking.{walked_wrong}

@@ -1,5 +1,6 @@
 use Rattle.std.proofs.Common.{◌≡◌, map, string_bytes, drop, None}
-use Rattle.ssfnet_top.specs.Words.{assigned, walked_on}
+use Rattle.ssfnet_top.specs.Words.{assigned}
+use Rattle.ssfnet_top.specs.WordWalk.{walked_on}
 use Rattle.ssfnet_top.proofs.words.walk_over.Given as goal
 
 -- what was walked over and what follows are what the words give

@@ -1,0 +1,11 @@
+use Rattle.std.proofs.Common.{sym, subst}
+use Rattle.ssfnet_top.specs.declared.command.Command.{Command}
+use Rattle.ssfnet_top.specs.Outcome.{IsCommandDue}
+use Rattle.ssfnet_top.specs.Ending.{Answers}
+use Rattle.ssfnet_top.proofs.top.act.Goals as goal
+
+pub returns-in-Seq-clause-due : goal.returns-in-Seq-clause-due
+returns-in-Seq-clause-due g c =
+    let P : Command → Type 0 = λ command. Answers (IsCommandDue command c.args.files c.args.tree.now) c.run_model.result
+    (g.K.Sink.faults c.args.out.now) (g.K.Sink.faults c.run_model.new.out) (g.K.Sink.held c.args.out.now) (g.K.Sink.held c.run_model.new.out) in
+    subst P (sym c.in-Seq.is) c.run_model.ensures.due

@@ -1,0 +1,140 @@
+-- How a call ends, measured by what is due: all of it, a part of it, or nothing.
+use Rattle.std.specs.Prelude.{ℕ, ◌≡◌, ◌⊎◌, List, [], Contains, Option, None, IsSome, Result, Ok, Err}
+use Rattle.std.specs.Option.{IsSomeAnd}
+use Rattle.sim_base.specs.Outside.{Files, Rose, Appends, AppendsPrefix}
+use Rattle.dml_tree.specs.declared.reading.TreeFault.TheVariants as tree_fault
+use Rattle.net_graph.specs.declared.fault.ShapeFault.TheVariants as shape_fault
+use Rattle.ssfnet_top.specs.declared.command.Command.{Command}
+use Rattle.ssfnet_top.specs.declared.command.Command.TheVariants as commands
+use Rattle.ssfnet_top.specs.declared.refusal.Refusal.{Refusal}
+use Rattle.ssfnet_top.specs.declared.refusal.Refusal.TheVariants as refusal
+use Rattle.ssfnet_top.specs.Refusals.{status_of}
+use Rattle.ssfnet_top.specs.Words.{Asked, asked_of_words}
+use Rattle.ssfnet_top.specs.Outcome.{Due, done, refused, refusal_line, IsOutcome}
+
+-- What is seen of the outside: how often the library, `out` and `err` failed, and the bytes that `out` and `err` hold
+-- where they are told.
+pub record Outside : Type 0 where
+  pub read_faults : ℕ
+  pub out_faults : ℕ
+  pub err_faults : ℕ
+  pub out : Option (List ℕ)
+  pub err : Option (List ℕ)
+
+-- the status is the one that is due, and so are the bytes written
+pub record IsMet (due : Due) (status : ℕ) (before after : Outside) : Type 0 where
+  pub status_is : status ≡ due.status
+  pub out : Appends due.out before.out after.out
+  pub err : Appends due.err before.err after.err
+
+-- there was no memory, or a sink failed
+abbrev pub IsStopped : ℕ → Outside → Outside → Type 0
+IsStopped status before after =
+    ((status ≡ 1) × Appends (refusal_line refusal.Memory) before.err after.err)
+    ⊎ ((status ≡ 7) × (Rose before.out_faults after.out_faults ⊎ Rose before.err_faults after.err_faults))
+
+-- some of what is due was written, from its beginning
+pub record IsCutShort (due : Due) (status : ℕ) (before after : Outside) : Type 0 where
+  pub stopped : IsStopped status before after
+  pub out : AppendsPrefix due.out before.out after.out
+
+-- a file of this name is one of the command's
+abbrev pub IsFileOf : Option Asked → List ℕ → Type 0
+IsFileOf asked name = IsSomeAnd asked (λ a. Contains a.files name)
+
+-- the library failed at a file of the command
+pub record IsUnread (asked : Option Asked) (status : ℕ) (before after : Outside) : Type 0 where
+  pub status_is : status ≡ 3
+  pub rose : Rose before.read_faults after.read_faults
+  pub name : List ℕ
+  pub file : IsFileOf asked name
+  pub err : Appends (refusal_line (refusal.Read name)) before.err after.err
+
+-- nothing was written on `out`
+pub record IsNothing (asked : Option Asked) (status : ℕ) (before after : Outside) : Type 0 where
+  pub cause : IsStopped status before after ⊎ IsUnread asked status before after
+  pub out : Appends [] before.out after.out
+
+-- A call with these words and these files ended with this status.
+abbrev pub Ends : Files → List (List ℕ) → ℕ → Outside → Outside → Type 0
+Ends files words status before after =
+    ((due : Due) × IsOutcome files words due × (IsMet due status before after ⊎ IsCutShort due status before after))
+    ⊎ IsNothing (asked_of_words words) status before after
+
+-- What a refusal names is of the command, whatever the files hold. Want of memory is no fault of a file or a model.
+abbrev pub HasBudget : Command → ℕ → Type 0
+HasBudget commands.Dml budget = ⊥
+HasBudget (commands.Seq until most) budget = budget ≡ most
+
+abbrev pub Concerns : Option Asked → Refusal → Type 0
+Concerns asked refusal.Memory = Unit {0}
+Concerns asked refusal.Words = asked ≡ None
+Concerns asked (refusal.Read file) = IsFileOf asked file
+Concerns asked (refusal.Dml file fault) = IsFileOf asked file × ¬ (fault ≡ tree_fault.Memory)
+Concerns asked refusal.NotYet = IsSome asked
+Concerns asked (refusal.Shape fault) = IsSome asked × ¬ (fault ≡ shape_fault.Memory)
+Concerns asked refusal.Write = IsSome asked
+Concerns asked (refusal.Budget budget) = IsSomeAnd asked (λ a. HasBudget a.command budget)
+
+-- Within a call, where files of these names are read: what a refusal may be.
+abbrev pub IsOfFiles : List (List ℕ) → Refusal → Type 0
+IsOfFiles names refusal.Memory = Unit {0}
+IsOfFiles names refusal.Words = ⊥
+IsOfFiles names (refusal.Read file) = Contains names file
+IsOfFiles names (refusal.Dml file fault) = Contains names file × ¬ (fault ≡ tree_fault.Memory)
+IsOfFiles names refusal.NotYet = ⊥
+IsOfFiles names (refusal.Shape fault) = ⊥
+IsOfFiles names refusal.Write = ⊥
+IsOfFiles names (refusal.Budget budget) = ⊥
+
+-- Within a call, where a plan is made of a tree: what a refusal may be.
+abbrev pub IsOfModel : Refusal → Type 0
+IsOfModel refusal.Memory = Unit {0}
+IsOfModel refusal.Words = ⊥
+IsOfModel (refusal.Read file) = ⊥
+IsOfModel (refusal.Dml file fault) = ⊥
+IsOfModel refusal.NotYet = Unit {0}
+IsOfModel (refusal.Shape fault) = ¬ (fault ≡ shape_fault.Memory)
+IsOfModel refusal.Write = ⊥
+IsOfModel (refusal.Budget budget) = ⊥
+
+-- Within a call, where a command does its work with a tree: what a refusal may be.
+abbrev pub IsOfCommand : Command → Refusal → Type 0
+IsOfCommand command refusal.Memory = Unit {0}
+IsOfCommand command refusal.Words = ⊥
+IsOfCommand command (refusal.Read file) = ⊥
+IsOfCommand command (refusal.Dml file fault) = ⊥
+IsOfCommand command refusal.NotYet = Unit {0}
+IsOfCommand command (refusal.Shape fault) = ¬ (fault ≡ shape_fault.Memory)
+IsOfCommand command refusal.Write = Unit {0}
+IsOfCommand command (refusal.Budget budget) = HasBudget command budget
+
+-- Within a call, where the text of an outcome is written to a sink.
+
+-- the outcome that an answer and the bytes written stand for
+abbrev pub due_of : Result (Unit {0}) Refusal → List ℕ → Due
+due_of (Ok unit) text = done text
+due_of (Err r) text = refused r text
+
+-- want of memory, or a failed write
+abbrev pub IsHalt : Result (Unit {0}) Refusal → ℕ → ℕ → Type 0
+IsHalt answer faults faults' = (answer ≡ Err refusal.Memory) ⊎ ((answer ≡ Err refusal.Write) × Rose faults faults')
+
+-- all that is due was written; or a part of it; or nothing, for want of memory
+abbrev pub Answers : (Due → Type 0) → Result (Unit {0}) Refusal → ℕ → ℕ → Option (List ℕ) → Option (List ℕ) → Type 0
+Answers IsDue answer faults faults' held held' =
+    ((text : List ℕ) × IsDue (due_of answer text) × Appends text held held')
+    ⊎ (((due : Due) × IsDue due × IsHalt answer faults faults' × AppendsPrefix due.out held held')
+    ⊎ ((answer ≡ Err refusal.Memory) × Appends [] held held'))
+
+-- the library failed at a file of this command, and nothing was written
+abbrev pub IsReadFault : Option Asked → Result (Unit {0}) Refusal → ℕ → ℕ → Option (List ℕ) → Option (List ℕ) → Type 0
+IsReadFault asked answer faults faults' held held' =
+    (name : List ℕ) × IsFileOf asked name × (answer ≡ Err (refusal.Read name)) × Rose faults faults' × Appends [] held held'
+
+-- the line of a refusal was written on `err`; or there was no memory for it; or `err` failed
+abbrev pub IsTold : Refusal → ℕ → ℕ → ℕ → Option (List ℕ) → Option (List ℕ) → Type 0
+IsTold r status faults faults' held held' =
+    ((status ≡ status_of r) × Appends (refusal_line r) held held')
+    ⊎ (((status ≡ 1) × ¬ (r ≡ refusal.Write) × Appends (refusal_line refusal.Memory) held held')
+    ⊎ ((status ≡ 7) × Rose faults faults'))

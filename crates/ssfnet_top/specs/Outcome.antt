@@ -1,0 +1,131 @@
+-- What a command is to answer, by its words and the told files alone: the status, and the bytes that are due on
+-- `out` and on `err`.
+use Rattle.std.specs.Prelude.{ℕ, ◌≡◌, ◌+◌, ◌<◌, ◌≤◌, ◌⊎◌, if◌then◌else◌, List, [], ◌∷◌, ◌++◌, length, Option, Some, None, IsSome, Result, Ok, Err}
+use Rattle.sim_base.specs.Outside.{Files}
+use Rattle.dml_tree.specs.Attributes.{Attributes, none}
+use Rattle.dml_tree.specs.TreeView.{attributes, joined}
+use Rattle.dml_tree.specs.Reading.{Reads}
+use Rattle.dml_tree.specs.Printing.{printing}
+use Rattle.dml_tree.specs.declared.reading.TreeFault.{TreeFault}
+use Rattle.net_graph.specs.declared.fault.ShapeFault.{ShapeFault}
+use Rattle.net_build.specs.declared.built.Built.{Built}
+use Rattle.net_build.specs.RingModel.{ring_plan_of}
+use Rattle.ring_model.specs.declared.ring.Ring.{Ring}
+use Rattle.ring_model.specs.declared.ring.RingState.{RingState}
+use Rattle.ring_model.specs.declared.ring.RingPayload.{RingPayload}
+use Rattle.ring_model.specs.Reacting.{ring_reaction}
+use Rattle.event_machine.specs.Machine.{within}
+use Rattle.ssf_model.specs.declared.event.Names.{Names}
+use Rattle.ssf_model.specs.declared.plan.Plan.{Plan}
+use Rattle.ssf_model.specs.Reaction.{Reaction}
+use Rattle.ssf_model.specs.Run.{run_event, run_entries}
+use Rattle.trace_writer.specs.Trace.{entries_text, trace_text}
+use Rattle.ssfnet_top.specs.declared.command.Command.{Command}
+use Rattle.ssfnet_top.specs.declared.command.Command.TheVariants as commands
+use Rattle.ssfnet_top.specs.declared.refusal.Refusal.{Refusal}
+use Rattle.ssfnet_top.specs.declared.refusal.Refusal.TheVariants as refusal
+use Rattle.ssfnet_top.specs.Refusals.{status_of, line_of}
+use Rattle.ssfnet_top.specs.Words.{Asked, asked_of_words}
+use Rattle.ssfnet_top.specs.Absent.{needs_absent_part}
+
+-- what is due: the status, the bytes on `out`, and those on `err`
+pub record Due : Type 0 where
+  pub status : ℕ
+  pub out : List ℕ
+  pub err : List ℕ
+
+-- the line of a refusal
+abbrev pub refusal_line : Refusal → List ℕ
+refusal_line r = line_of r ++ 10 ∷ []
+
+-- all went well, with this text
+abbrev pub done : List ℕ → Due
+done text = record { status = 0; out = text; err = [] }
+
+-- it was refused, after this text
+abbrev pub refused : Refusal → List ℕ → Due
+refused r text = record { status = status_of r; out = text; err = refusal_line r }
+
+-- The files.
+
+-- what bytes mean that stand in a file of this name
+abbrev pub meant : List ℕ → Result Attributes TreeFault → Result Attributes Refusal
+meant name (Ok tree) = Ok tree
+meant name (Err fault) = Err (refusal.Dml name fault)
+
+-- a file that is not there is refused, and one that is there has the tree or the fault of its bytes
+abbrev pub IsRead : List ℕ → ℕ → Option (List ℕ) → Result Attributes Refusal → Type 0
+IsRead name number None result = result ≡ Err (refusal.Read name)
+IsRead name number (Some bytes) result = (meaning : Result Attributes TreeFault) × Reads number bytes meaning × (result ≡ meant name meaning)
+
+-- file `number` of the model, of this name, is read so
+abbrev pub IsFileRead : Files → ℕ → List ℕ → Result Attributes Refusal → Type 0
+IsFileRead files number name result = IsRead name number (files name) result
+
+-- files of these names, numbered from `number` on, are read so: their trees are joined in order, and the first
+-- refusal decides
+abbrev pub AreRead : Files → ℕ → List (List ℕ) → Result Attributes Refusal → Type 0
+AreRead files number [] (Ok tree) = tree ≡ none
+AreRead files number [] (Err r) = ⊥
+AreRead files number (name ∷ names) (Ok tree) =
+    (first : Attributes) × (others : Attributes)
+    × IsFileRead files number name (Ok first) × AreRead files (number + 1) names (Ok others) × (tree ≡ joined first others)
+AreRead files number (name ∷ names) (Err r) =
+    IsFileRead files number name (Err r)
+    ⊎ ((first : Attributes) × IsFileRead files number name (Ok first) × AreRead files (number + 1) names (Err r))
+
+-- The model.
+
+abbrev pub shaped : {A : Type 0} → Result A ShapeFault → Result A Refusal
+shaped (Ok model) = Ok model
+shaped (Err fault) = Err (refusal.Shape fault)
+
+-- the model of the tree of so many files
+abbrev pub model_of : ℕ → Attributes → Result (Built Ring RingState RingPayload) Refusal
+model_of files tree = if needs_absent_part files tree then Err refusal.NotYet else shaped (ring_plan_of (attributes tree))
+
+-- The run. R is the cut: the writes of a round above it do not become pending.
+
+-- a run has so many events: each of these, and none behind them
+pub record HasEvents {B S P : Type 0} (r : Reaction S P) (plan : Plan B S P) (until R n : ℕ) : Type 0 where
+  pub each : (k : ℕ) → k < n → IsSome (run_event r plan until (within R) k)
+  pub no_more : run_event r plan until (within R) n ≡ None
+
+-- the run has at most `budget` events, and its whole trace is due
+pub record IsWithin {B S P : Type 0} (r : Reaction S P) (plan : Plan B S P) (names : Names) (until budget R : ℕ) (due : Due) : Type 0 where
+  pub count : ℕ
+  pub few : count ≤ budget
+  pub events : HasEvents r plan until R count
+  pub whole : due ≡ done (trace_text names (run_entries r plan until (within R) count) until (plan.before + count))
+
+-- the run has more events, and the records of the first `budget` ones are due
+pub record IsOver {B S P : Type 0} (r : Reaction S P) (plan : Plan B S P) (names : Names) (until budget R : ℕ) (due : Due) : Type 0 where
+  pub more : IsSome (run_event r plan until (within R) budget)
+  pub first : due ≡ refused (refusal.Budget budget) (entries_text names (run_entries r plan until (within R) budget))
+
+-- what is due of a run by one event list, whatever its cut, as long as the cut drops no round up to `budget`
+abbrev pub IsRunDue : {B S P : Type 0} → Reaction S P → Plan B S P → Names → ℕ → ℕ → Due → Type 0
+IsRunDue r plan names until budget due = (R : ℕ) → budget ≤ R → IsWithin r plan names until budget R due ⊎ IsOver r plan names until budget R due
+
+-- The commands.
+
+abbrev pub IsModelRun : ℕ → ℕ → Result (Built Ring RingState RingPayload) Refusal → Due → Type 0
+IsModelRun until budget (Ok built) due = IsRunDue ring_reaction built.plan built.names until budget due
+IsModelRun until budget (Err r) due = due ≡ refused r []
+
+-- what a command has to do with the joined tree of so many files
+abbrev pub IsCommandDue : Command → ℕ → Attributes → Due → Type 0
+IsCommandDue commands.Dml files tree due = due ≡ done (printing 0 tree)
+IsCommandDue (commands.Seq until budget) files tree due = IsModelRun until budget (model_of files tree) due
+
+abbrev pub IsTreeDue : Asked → Result Attributes Refusal → Due → Type 0
+IsTreeDue asked (Ok tree) due = IsCommandDue asked.command (length asked.files) tree due
+IsTreeDue asked (Err r) due = due ≡ refused r []
+
+abbrev pub IsAskedDue : Files → Option Asked → Due → Type 0
+IsAskedDue files None due = due ≡ refused refusal.Words []
+IsAskedDue files (Some asked) due = (tree : Result Attributes Refusal) × AreRead files 0 asked.files tree × IsTreeDue asked tree due
+
+-- the outcome of these words with these files
+abbrev pub IsOutcome : Files → List (List ℕ) → Due → Type 0
+IsOutcome files words due = IsAskedDue files (asked_of_words words) due
