@@ -5,7 +5,7 @@ use Rattle.std.specs.declared.alloc.Global.{Global}
 use Rattle.sim_base.specs.Outside.{Files, IsLonger}
 use Rattle.dml_tree.specs.Attributes.{Attributes, none, plain, list}
 use Rattle.dml_tree.specs.TreeView.{joined}
-use Rattle.dml_tree.specs.Reading.{Reads, AnswersFault, most_bytes}
+use Rattle.dml_tree.specs.Reading.{Reads, most_bytes}
 use Rattle.dml_tree.specs.declared.reading.TreeFault.{TreeFault}
 use Rattle.dml_tree.specs.declared.reading.TreeFault.TheVariants as fault
 use Rattle.ssfnet_top.specs.declared.refusal.Refusal.{Refusal}
@@ -13,24 +13,6 @@ use Rattle.ssfnet_top.specs.declared.refusal.Refusal.TheVariants as refusal
 use Rattle.ssfnet_top.specs.Refusals.{status_of}
 use Rattle.ssfnet_top.specs.Outcome.{IsRead, IsFileRead, AreRead}
 use Rattle.ssfnet_top.specs.Ending.{IsOfFiles}
-
--- a fault that is not want of memory is the meaning
-pub is_meant : (Means : Result Attributes TreeFault → Type 0) (f : TreeFault) → ¬ (f ≡ fault.Memory) → AnswersFault Means f → Means (Err f)
-is_meant Means (fault.BadByte at) differs h = h
-is_meant Means (fault.OpenQuote at) differs h = h
-is_meant Means (fault.KeyWanted at) differs h = h
-is_meant Means (fault.ValueWanted at) differs h = h
-is_meant Means (fault.OpenList at) differs h = h
-is_meant Means (fault.StrayClose at) differs h = h
-is_meant Means (fault.NestedTooDeep at) differs h = h
-is_meant Means fault.TooLong differs h = h
-is_meant Means fault.Memory differs h = absurd (differs refl)
-
--- a file with these bytes spells the tree
-pub read_tree : (files : Files) (number : ℕ) (name bytes : List ℕ) (tree : Attributes) → files name ≡ Some bytes → Reads number bytes (Ok tree) → IsFileRead files number name (Ok tree)
-read_tree files number name bytes tree there means =
-    let P : Option (List ℕ) → Type 0 = λ o. IsRead name number o (Ok tree) in
-    subst P (sym there) (Ok tree, means, refl)
 
 -- a file with these bytes has the fault
 pub read_fault : (files : Files) (number : ℕ) (name bytes : List ℕ) (f : TreeFault) → files name ≡ Some bytes → Reads number bytes (Err f) → IsFileRead files number name (Err (refusal.Dml name f))
@@ -57,16 +39,6 @@ joined_joined (list key place inner rest) b c = ap (list key place inner) (joine
 abbrev pub Decides : Files → List (String Global) → ℕ → Attributes → Type 0
 Decides files names number root =
     (others : Result Attributes Refusal) → AreRead files number (map string_bytes (drop number names)) others → AreRead files 0 (map string_bytes names) (onto root others)
-
-onto_none : (r : Result Attributes Refusal) → onto none r ≡ r
-onto_none (Ok t) = refl
-onto_none (Err r) = refl
-
-pub decides_first : (files : Files) (names : List (String Global)) (root : Attributes) → root ≡ none → Decides files names 0 root
-decides_first files names root is others read =
-    let P : Result Attributes Refusal → Type 0 = λ r. AreRead files 0 (map string_bytes names) r in
-    let Q : Attributes → Type 0 = λ t. AreRead files 0 (map string_bytes names) (onto t others) in
-    subst Q (sym is) (subst P (sym (onto_none others)) read)
 
 names_at : (names : List (String Global)) (number : ℕ) (name : String Global) → number < length names → name ≡ get_or names number name
     → map string_bytes (drop number names) ≡ string_bytes name ∷ map string_bytes (drop (number + 1) names)
