@@ -7,14 +7,15 @@
 //! least first interface decides, and then the least address by which the second host is attached.
 //!
 //! Contracts cite `specs/Walks.antt` (walks, their labels and the table of routes) and
-//! `specs/Best.antt` (the best route for an address).
+//! `specs/Best.antt` (the best route for an address). [`laws`] has that a host's table is determined.
 #![tactic(auto)]
 
 mod choice;
 mod graph;
+pub mod laws;
 mod routes;
 mod search;
 
 pub use choice::best;
 pub use graph::{Arm, Graph, Period, RipEntry, Route};
-pub use routes::{one_table, shortest};
+pub use routes::shortest;

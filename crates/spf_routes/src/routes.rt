@@ -1,7 +1,5 @@
 //! The table of least routes of a host.
 ghost use Rattle.std.specs.Prelude.{◌≡◌, ℕ, ◌+◌, ◌^◌, ◌<◌, ◌≤◌, List, length, All, Contains, IfOk, MatchBool};
-ghost use Rattle.spf_routes.specs.declared.graph.Graph.{Graph};
-ghost use Rattle.spf_routes.specs.declared.graph.Route.{Route};
 ghost use Rattle.spf_routes.specs.Walks.{IsGraph, IsTable};
 ghost use Rattle.spf_routes.specs.Arms.{IsLesser, AreDirect, AreEntries, AreArms, AreRoutes, SomeRelays, NoneRelays};
 
@@ -176,11 +174,6 @@ pub fn shortest(alloc: Global, graph: &Graph, from: u32) -> Result<Vec<Route>, M
     let best = settle(alloc, starts.as_slice(), edges.as_slice())?;
     table(alloc, blocks, direct.as_slice(), best.as_slice())
 }
-
-/// A law: a host has one table of least routes.
-pub fn one_table()
-    ensures { (graph : Graph) (from : ℕ) (a b : List Route) → IsTable graph from a → IsTable graph from b → a ≡ b }
-{}
 
 #[cfg(test)]
 mod tests;

@@ -1,5 +1,4 @@
 use Rattle.std.proofs.Common.{◌≡◌, ℕ, ◌^◌, ◌<◌, ◌≤◌, Bool, false, List, length, get_or, All, ap, sym, ◌∙◌, arith}
-use Rattle.std.specs.Prelude.{Contains}
 use Rattle.std.proofs.lemmas.List.Elements.{All-push, All-contains}
 use Rattle.ip_blocks.specs.declared.block.Block.{Block}
 use Rattle.spf_routes.specs.declared.graph.Arm.{Arm}
