@@ -1,3 +1,4 @@
+pub mod ListsRead
 pub mod Lookup
 pub mod Seconds
 pub mod Worked

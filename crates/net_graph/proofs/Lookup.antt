@@ -1,9 +1,8 @@
 -- Going over attributes for the values of a key.
-use Rattle.std.proofs.Common.{◌≡◌, ℕ, zero, suc, ◌+◌, ◌<◌, ◌≤◌, Bool, true, false, nat_eq, List, [], ◌∷◌, length, map, filter, get_or, drop, refl, arith, ap, sym, ◌∙◌, add-one}
+use Rattle.std.proofs.Common.{◌≡◌, ℕ, zero, suc, ◌+◌, ◌<◌, ◌≤◌, true, false, nat_eq, List, [], ◌∷◌, length, get_or, drop, refl, arith, ap, sym, ◌∙◌, add-one}
 use Rattle.std.specs.Cmp.Lexicographic.{pointwise}
 use Rattle.std.proofs.Math.Seq.{drop-cons}
 use Rattle.dml_tree.specs.declared.tree.Attribute.{Attribute}
-use Rattle.dml_tree.specs.declared.tree.Value.{Value}
 use Rattle.dml_tree.specs.declared.tree.Value.TheVariants as value
 use Rattle.dml_tree.specs.Attributes.{Attributes}
 use Rattle.net_graph.specs.Keys.{values_of, lists_in, lists_of}

@@ -1,2 +1,4 @@
 pub mod Keys
+pub mod ListKeys
 pub mod Readers
+pub mod Reads

@@ -80,3 +80,33 @@ pub fn missing(alloc: Global, key: &[u8]) -> ShapeFault
         Err(_) => ShapeFault::Memory,
     }
 }
+
+/// The fault `BadNhi` of this text, or `Memory`.
+pub fn bad_nhi(alloc: Global, text: &[u8]) -> ShapeFault
+    ensures { (result ≡ ShapeFault.Memory) ⊎ (result ≡ ShapeFault.BadNhi text.now) }
+{
+    match Text::of(alloc, text) {
+        Ok(text) => ShapeFault::BadNhi(text),
+        Err(_) => ShapeFault::Memory,
+    }
+}
+
+/// The fault `UnknownSession` of this name, or `Memory`.
+pub fn unknown_session(alloc: Global, name: &[u8]) -> ShapeFault
+    ensures { (result ≡ ShapeFault.Memory) ⊎ (result ≡ ShapeFault.UnknownSession name.now) }
+{
+    match Text::of(alloc, name) {
+        Ok(name) => ShapeFault::UnknownSession(name),
+        Err(_) => ShapeFault::Memory,
+    }
+}
+
+/// The fault `TooMany` of this kind, or `Memory`.
+pub fn too_many(alloc: Global, kind: &[u8]) -> ShapeFault
+    ensures { (result ≡ ShapeFault.Memory) ⊎ (result ≡ ShapeFault.TooMany kind.now) }
+{
+    match Text::of(alloc, kind) {
+        Ok(kind) => ShapeFault::TooMany(kind),
+        Err(_) => ShapeFault::Memory,
+    }
+}

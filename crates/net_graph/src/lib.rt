@@ -1,16 +1,27 @@
 //! From a resolved tree to what a model says: which model a tree has, how its keys are looked up,
-//! how numbers and seconds are read, and why there is no model that can run.
+//! how numbers and seconds are read, what the keys of each kind of list of a Net say, and why there
+//! is no model that can run. The rows of a network are declared here too.
 //!
-//! Contracts cite `specs/Keys.antt` (the values of a key, and which model a tree has) and
-//! `specs/Readers.antt` (seconds).
+//! Contracts cite `specs/Keys.antt` (the values of a key, and which model a tree has),
+//! `specs/Readers.antt` (seconds) and `specs/ListKeys.antt` (the keys of each kind of list, with
+//! their ranges, defaults and order).
 #![tactic(auto)]
 
 mod fault;
 mod keys;
+mod list_keys;
 mod readers;
+mod rows;
 #[cfg(test)]
 mod tests;
 
-pub use fault::{ShapeFault, bad_number, missing};
+pub use fault::{ShapeFault, bad_nhi, bad_number, missing, too_many, unknown_session};
 pub use keys::{first_list, first_value, has_key, is_net, number_in};
+pub use list_keys::{
+    GatewayKeys, InterfaceKeys, LinkKeys, ServerKeys, SessionKeys, default_settings, read_client,
+    read_frequency, read_gateway, read_ids, read_interface, read_link, read_server, read_session,
+};
 pub use readers::{MOST_DIGITS, MOST_TICKS, read_integer, read_seconds};
+pub use rows::{
+    Down, Gateway, HostRow, InterfaceRow, LinkRow, NetRow, Network, SessionKind, SessionRow,
+};

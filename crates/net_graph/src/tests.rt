@@ -1,8 +1,11 @@
 use crate::{
-    ShapeFault, bad_number, first_list, first_value, is_net, missing, number_in, read_integer,
-    read_seconds,
+    SessionKeys, ShapeFault, bad_number, default_settings, first_list, first_value, is_net,
+    missing, number_in, read_client, read_frequency, read_gateway, read_ids, read_integer,
+    read_interface, read_link, read_seconds, read_server, read_session,
 };
-use dml_tree::read;
+use dml_tree::{Tree, read};
+use std::alloc::Global;
+use std::process::Abort;
 use std::test::Fail;
 
 #[test]
@@ -104,5 +107,327 @@ fn the_first_of_a_key_counts(rt: HostRuntime) -> Result<(), Fail> {
         return Err(Fail::from("another fault"));
     };
     assert_eq!(rt; key.as_bytes(), b"k".as_slice());
+    Ok(())
+}
+
+/// Which list's keys are read.
+#[derive(Clone, Copy)]
+enum Keys {
+    Net,
+    Ids,
+    Interface,
+    Gateway,
+    Link,
+    Session,
+    Client,
+    Server,
+}
+
+/// Reads the keys of such a list at 10^9 ticks a second, where 63 times in which links are down came
+/// before.
+fn read_keys(alloc: Global, keys: Keys, tree: &Tree) -> Result<(), ShapeFault> {
+    match keys {
+        Keys::Net => {
+            read_frequency(alloc, tree)?;
+        }
+        Keys::Ids => {
+            read_ids(alloc, tree)?;
+        }
+        Keys::Interface => {
+            read_interface(alloc, tree, 1_000_000_000)?;
+        }
+        Keys::Gateway => {
+            read_gateway(alloc, tree)?;
+        }
+        Keys::Link => {
+            read_link(alloc, tree, 1_000_000_000, 63)?;
+        }
+        Keys::Session => {
+            read_session(alloc, tree, 1_000_000_000)?;
+        }
+        Keys::Client => {
+            read_client(alloc, tree)?;
+        }
+        Keys::Server => {
+            read_server(alloc, tree)?;
+        }
+    }
+    Ok(())
+}
+
+/// A fault's name and its detail, where keys have one.
+fn fault_text(alloc: Global, fault: ShapeFault) -> Result<String, Fail> {
+    let (name, detail) = match fault {
+        ShapeFault::BadNhi(text) => ("BadNhi ", text),
+        ShapeFault::BadNumber(key) => ("BadNumber ", key),
+        ShapeFault::Missing(key) => ("Missing ", key),
+        ShapeFault::UnknownSession(name) => ("UnknownSession ", name),
+        ShapeFault::TooMany(kind) => ("TooMany ", kind),
+        _other => return Ok(String::from_str(alloc, "another")?),
+    };
+    let mut text = String::from_str(alloc, name)?;
+    for byte in detail.as_bytes() {
+        text.push(char::from(*byte))?;
+    }
+    Ok(text)
+}
+
+/// Checks what the keys of such lists answer.
+fn check_keys(
+    rt: &(impl Abort + AllocGlobal),
+    keys: Keys,
+    rows: &[(&[u8], &str)],
+) -> Result<(), Fail> {
+    for (text, wanted) in rows {
+        let tree = read(rt.alloc(), 0, text)?;
+        let answer = match read_keys(rt.alloc(), keys, &tree) {
+            Ok(()) => String::from_str(rt.alloc(), "ok")?,
+            Err(fault) => fault_text(rt.alloc(), fault)?,
+        };
+        assert_eq!(rt; answer.as_str(), *wanted);
+    }
+    Ok(())
+}
+
+#[test]
+fn the_frequency_has_its_range(rt: HostRuntime) -> Result<(), Fail> {
+    let rows = [
+        (b"".as_slice(), "ok"),
+        (b"frequency 1", "ok"),
+        (b"frequency 1000000000000", "ok"),
+        (b"frequency 0", "BadNumber frequency"),
+        (b"frequency 1000000000001", "BadNumber frequency"),
+        (b"frequency [ ]", "BadNumber frequency"),
+    ];
+    check_keys(&rt, Keys::Net, rows.as_slice())
+}
+
+#[test]
+fn ids_and_their_ranges_have_their_keys(rt: HostRuntime) -> Result<(), Fail> {
+    let rows = [
+        (b"".as_slice(), "Missing id"),
+        (b"id 0", "ok"),
+        (b"id 2147483647", "ok"),
+        (b"id 2147483648", "BadNumber id"),
+        (b"id [ ] idrange [ from 0 to 1 ]", "BadNumber id"),
+        (b"idrange x", "Missing id"),
+        (b"idrange x idrange [ from 3 to 3 ]", "ok"),
+        (b"idrange [ from 0 to 2147483647 ]", "ok"),
+        (b"idrange [ from 3 to 1 ]", "BadNumber idrange"),
+        (b"idrange [ from x ]", "Missing to"),
+        (b"idrange [ to x ]", "Missing from"),
+        (b"idrange [ from 1 to [ ] ]", "BadNumber idrange"),
+        (b"idrange [ from 0 to 2147483648 ]", "BadNumber idrange"),
+    ];
+    check_keys(&rt, Keys::Ids, rows.as_slice())
+}
+
+#[test]
+fn interfaces_have_their_keys(rt: HostRuntime) -> Result<(), Fail> {
+    let rows = [
+        (b"".as_slice(), "ok"),
+        (b"bitrate 0", "BadNumber bitrate"),
+        (b"bitrate 1000000000001", "BadNumber bitrate"),
+        (b"bitrate fast", "BadNumber bitrate"),
+        (b"latency .", "BadNumber latency"),
+        (b"latency [ ]", "BadNumber latency"),
+        (b"latency 1000000000.1", "BadNumber latency"),
+        (b"buffer 0", "BadNumber buffer"),
+        (b"buffer 2147483649", "BadNumber buffer"),
+        (b"cost 0", "BadNumber cost"),
+        (b"cost 65536", "BadNumber cost"),
+        (
+            b"cost 65535 buffer 2147483648 latency 1000000000 bitrate 1000000000000",
+            "ok",
+        ),
+        (b"cost x latency x", "BadNumber latency"),
+    ];
+    check_keys(&rt, Keys::Interface, rows.as_slice())
+}
+
+#[test]
+fn default_routes_have_their_keys(rt: HostRuntime) -> Result<(), Fail> {
+    let rows = [
+        (b"nhi_route x".as_slice(), "ok"),
+        (b"nhi_route [ ]", "ok"),
+        (b"nhi_route [ dest 1 ]", "ok"),
+        (b"nhi_route [ dest [ ] ]", "BadNumber dest"),
+        (b"route [ dest default ]", "Missing interface"),
+        (
+            b"route [ dest default interface 2147483648 ]",
+            "BadNumber interface",
+        ),
+        (
+            b"route [ dest default interface 2147483647 next_hop 1 ]",
+            "BadNhi 1",
+        ),
+        (
+            b"route [ dest default interface 0 next_hop [ ] ]",
+            "BadNumber next_hop",
+        ),
+        (
+            b"route [ dest 1 ] nhi_route [ dest default interface 0 next_hop 1(0) ] route [ dest [ ] ]",
+            "ok",
+        ),
+    ];
+    check_keys(&rt, Keys::Gateway, rows.as_slice())
+}
+
+#[test]
+fn links_have_their_keys(rt: HostRuntime) -> Result<(), Fail> {
+    let rows = [
+        (b"".as_slice(), "Missing attach"),
+        (b"attach 1(0)", "ok"),
+        (b"attach 1", "BadNhi 1"),
+        (b"attach 1(0) attach x", "BadNhi x"),
+        (b"attach 1(0) attach [ ]", "BadNumber attach"),
+        (b"attach 1(0) priority 256 delay x", "BadNumber delay"),
+        (b"attach 1(0) priority 256", "BadNumber priority"),
+        (b"attach 1(0) priority 255 down x", "ok"),
+        (b"attach 1(0) down [ ]", "Missing from"),
+        (b"attach 1(0) down [ from 0 ]", "Missing to"),
+        (b"attach 1(0) down [ from 0 to [ ] ]", "BadNumber down"),
+        (b"attach 1(0) down [ from 1 to 1 ]", "BadNumber down"),
+        (
+            b"attach 1(0) down [ from 0 to 0.0000000001 ]",
+            "BadNumber down",
+        ),
+        (b"attach 1(0) down [ from 0 to 1 ]", "ok"),
+    ];
+    check_keys(&rt, Keys::Link, rows.as_slice())
+}
+
+#[test]
+fn times_down_of_links_have_their_keys(rt: HostRuntime) -> Result<(), Fail> {
+    let rows = [
+        (
+            b"attach 1(0) down [ from 0 to 1 ] down [ from 0 to 1 ] down [ ]".as_slice(),
+            "TooMany downs",
+        ),
+        (b"attach 1(0) down [ from 0 to 1 ] down [ ]", "Missing from"),
+    ];
+    check_keys(&rt, Keys::Link, rows.as_slice())
+}
+
+#[test]
+fn sessions_have_their_keys(rt: HostRuntime) -> Result<(), Fail> {
+    let rows = [
+        (b"".as_slice(), "Missing name"),
+        (b"name [ ]", "BadNumber name"),
+        (b"name bgp", "UnknownSession bgp"),
+        (b"name ip", "ok"),
+        (b"name udp", "ok"),
+        (b"name socket", "ok"),
+        (b"name OSPF", "ok"),
+        (b"name ospf", "ok"),
+        (b"name server", "Missing port"),
+        (b"name server port 0", "BadNumber port"),
+        (b"name server port 65536", "BadNumber port"),
+        (b"name server port 65535", "ok"),
+        (b"name client transport TCP", "BadNumber transport"),
+        (b"name client transport [ ]", "BadNumber transport"),
+    ];
+    check_keys(&rt, Keys::Session, rows.as_slice())
+}
+
+#[test]
+fn client_sessions_have_their_keys(rt: HostRuntime) -> Result<(), Fail> {
+    let rows = [
+        (
+            b"name client start_time x".as_slice(),
+            "BadNumber start_time",
+        ),
+        (b"name client start_window x", "BadNumber start_window"),
+        (b"name client file_size 1073741825", "BadNumber file_size"),
+        (b"name client datagram_size 0", "BadNumber datagram_size"),
+        (
+            b"name client datagram_size 65508",
+            "BadNumber datagram_size",
+        ),
+        (b"name client send_interval x", "BadNumber send_interval"),
+        (
+            b"name client transport udp file_size 1073741824 datagram_size 65507",
+            "ok",
+        ),
+        (b"name tcp ISS 1073741825", "BadNumber ISS"),
+        (b"name tcp MSS 0", "BadNumber MSS"),
+        (b"name tcp MSS 65496", "BadNumber MSS"),
+        (b"name tcp RcvWndSize 0", "BadNumber RcvWndSize"),
+        (b"name tcp SendWndSize 65536", "BadNumber SendWndSize"),
+        (b"name tcp MaxRexmitTimes 101", "BadNumber MaxRexmitTimes"),
+        (b"name tcp MSL x", "BadNumber MSL"),
+    ];
+    check_keys(&rt, Keys::Session, rows.as_slice())
+}
+
+#[test]
+fn tcp_sessions_have_their_keys(rt: HostRuntime) -> Result<(), Fail> {
+    let rows = [
+        (b"name tcp MSL x tcpinit [ MSS 1 ]".as_slice(), "ok"),
+        (b"name tcp tcpinit [ MSS x ]", "BadNumber MSS"),
+    ];
+    check_keys(&rt, Keys::Session, rows.as_slice())
+}
+
+#[test]
+fn clients_of_patterns_have_their_keys(rt: HostRuntime) -> Result<(), Fail> {
+    let rows = [
+        (b"".as_slice(), "Missing client"),
+        (b"client 1(0)", "BadNhi 1(0)"),
+        (b"client [ ]", "BadNumber client"),
+        (b"client 0:1", "ok"),
+    ];
+    check_keys(&rt, Keys::Client, rows.as_slice())
+}
+
+#[test]
+fn servers_of_patterns_have_their_keys(rt: HostRuntime) -> Result<(), Fail> {
+    let rows = [
+        (b"port x".as_slice(), "Missing nhi"),
+        (b"nhi 1", "Missing port"),
+        (b"nhi ( port x", "BadNhi ("),
+        (b"nhi [ ] port x", "BadNumber nhi"),
+        (b"nhi 1(0) port x", "BadNumber port"),
+        (b"nhi 1 port 1", "ok"),
+    ];
+    check_keys(&rt, Keys::Server, rows.as_slice())
+}
+
+#[test]
+fn keys_that_are_silent_have_their_defaults(rt: HostRuntime) -> Result<(), Fail> {
+    let empty = read(rt.alloc(), 0, b"")?;
+    assert!(rt; matches!(read_frequency(rt.alloc(), &empty), Ok(1_000_000_000)));
+    let Ok(interface) = read_interface(rt.alloc(), &empty, 1_000) else {
+        return Err(Fail::from("refused"));
+    };
+    assert_eq!(rt; interface.bitrate, 10_000_000);
+    assert_eq!(rt; interface.buffer, 1_000_000);
+    assert_eq!(rt; interface.cost, 1);
+    let client = read(rt.alloc(), 0, b"name client")?;
+    let Ok(SessionKeys::Client(row)) = read_session(rt.alloc(), &client, 250) else {
+        return Err(Fail::from("refused"));
+    };
+    assert!(rt; row.tcp);
+    assert_eq!(rt; row.file, 10_000);
+    assert_eq!(rt; row.interval, 2);
+    let tcp = read(rt.alloc(), 0, b"name tcp")?;
+    let Ok(SessionKeys::Tcp(settings)) = read_session(rt.alloc(), &tcp, 250) else {
+        return Err(Fail::from("refused"));
+    };
+    assert_eq!(rt; settings.msl, 15_000);
+    assert_eq!(rt; settings, default_settings(250));
+    let link = read(
+        rt.alloc(),
+        0,
+        b"attach 2(3) attach 4(5) delay 0.5 down [ from 1 to 2 ]",
+    )?;
+    let Ok(keys) = read_link(rt.alloc(), &link, 10, 0) else {
+        return Err(Fail::from("refused"));
+    };
+    assert_eq!(rt; keys.attached.len(), 2);
+    assert_eq!(rt; keys.attached.as_slice()[1].ids(), [4].as_slice());
+    assert_eq!(rt; keys.delay, 5);
+    assert_eq!(rt; keys.downs.len(), 1);
+    assert_eq!(rt; keys.downs.as_slice()[0].to, 20);
     Ok(())
 }

@@ -1,7 +1,7 @@
-use Rattle.std.proofs.Common.{◌≡◌, ℕ, ◌+◌, ◌-◌, ◌*◌, ◌^◌, ◌<◌, ◌≤◌, ◌∙◌, ap, sym, List, length, take, drop, Option, None, Some, arith}
+use Rattle.std.proofs.Common.{ℕ, ◌+◌, ◌-◌, ◌∙◌, ap, sym, length, take, drop, Option, arith}
 use Rattle.std.specs.Option.{unwrap_or}
 use Rattle.nhi_address.specs.Number.{digits_of}
-use Rattle.net_graph.specs.Readers.{seconds_of, ticks_of_digits}
+use Rattle.net_graph.specs.Readers.{ticks_of_digits}
 use Rattle.net_graph.proofs.Seconds.{no_whole, no_decimals, both_fit, ticks_are, small_power, point_or_end, sides, decimals_are}
 use Rattle.net_graph.proofs.readers.read_seconds.Goals as goal
 
