@@ -1,4 +1,5 @@
 pub mod ListsRead
 pub mod Lookup
+pub mod NameTables
 pub mod Seconds
 pub mod Worked

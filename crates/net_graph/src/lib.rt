@@ -1,6 +1,6 @@
 //! From a resolved tree to what a model says: which model a tree has, how its keys are looked up,
 //! how numbers and seconds are read, what the keys of each kind of list of a Net say, and why there
-//! is no model that can run. The rows of a network are declared here too.
+//! is no model that can run. The rows of a network are declared here too, and tables of names.
 //!
 //! Contracts cite `specs/Keys.antt` (the values of a key, and which model a tree has),
 //! `specs/Readers.antt` (seconds) and `specs/ListKeys.antt` (the keys of each kind of list, with
@@ -10,6 +10,7 @@
 mod fault;
 mod keys;
 mod list_keys;
+mod names;
 mod readers;
 mod rows;
 #[cfg(test)]
@@ -21,6 +22,7 @@ pub use list_keys::{
     GatewayKeys, InterfaceKeys, LinkKeys, ServerKeys, SessionKeys, default_settings, read_client,
     read_frequency, read_gateway, read_ids, read_interface, read_link, read_server, read_session,
 };
+pub use names::{Pairs, Paths};
 pub use readers::{MOST_DIGITS, MOST_TICKS, read_integer, read_seconds};
 pub use rows::{
     Down, Gateway, HostRow, InterfaceRow, LinkRow, NetRow, Network, SessionKind, SessionRow,
