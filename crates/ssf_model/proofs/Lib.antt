@@ -1,3 +1,4 @@
 pub mod Drafted
 pub mod Delivering
 pub mod Worked
+mod TrueRows

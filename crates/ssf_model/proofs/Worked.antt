@@ -13,7 +13,7 @@ use Rattle.ssf_model.specs.Reaction.{Reaction}
 use Rattle.ssf_model.specs.Drafts.{empty_draft, with_entity, with_in_channel, with_out_channel, with_mapping, planned}
 use Rattle.ssf_model.specs.Run.{machine_of, run_events}
 
-key : ℕ → ℕ → ℕ → ℕ → Key
+unfoldable pub key : ℕ → ℕ → ℕ → ℕ → Key
 key time round channel number = record { time = time; round = round; priority = 0; channel = channel; number = number }
 
 -- a process that waits for no time at its start, and for two ticks whenever its timer runs out
@@ -31,13 +31,13 @@ unfolding machine_of comes_before planned ticks ticking key
 a_wait_for_no_time_takes_one_tick = refl
 
 -- process 0 waits for a message or four ticks; process 1 writes one message after two ticks
-listens : Reaction (Unit {0}) (Unit {0})
+unfoldable pub listens : Reaction (Unit {0}) (Unit {0})
 listens s zero now wake = record { state = s; wait = OnFor (0 ∷ []) 4; writes = []; lines = [] }
 listens s (suc i) now Begin = record { state = s; wait = For 2; writes = []; lines = [] }
 listens s (suc i) now Timer = record { state = s; wait = Forever; writes = Channel 0 0 tt ∷ []; lines = [] }
 listens s (suc i) now (Message channel payload) = record { state = s; wait = Forever; writes = []; lines = [] }
 
-listening : Plan (Unit {0}) (Unit {0}) (Unit {0})
+unfoldable pub listening : Plan (Unit {0}) (Unit {0}) (Unit {0})
 listening = planned (with_mapping (with_out_channel (with_in_channel (with_entity (empty_draft tt) tt (true ∷ true ∷ [])) 0) 0 0) 0 0 0 0)
 
 -- the event at 4 is the end of a wait that the message at 2 cut off: it is executed, and wakes nobody
