@@ -26,7 +26,7 @@ among_range first zero c a = absurd a
 among_range first (suc n) c (inl e) = omega arith
 among_range first (suc n) c (inr a) = let h = among_range (first + 1) n c a in omega arith
 
-above_range : (first n c : ℕ) → Among c (range_with_len first n) → first ≤ c
+pub above_range : (first n c : ℕ) → Among c (range_with_len first n) → first ≤ c
 above_range first zero c a = absurd a
 above_range first (suc n) c (inl e) = omega arith
 above_range first (suc n) c (inr a) = let h = above_range (first + 1) n c a in omega arith

@@ -86,7 +86,7 @@ module _ {S P : Type 0} (r : Reaction S P) (now : ℕ) (kind : Kind P) where
   reacted_timer i s p None = refl
   reacted_timer i s p (Some wake) = refl
 
-  delivered_timers : (i : ℕ) (s : S) (ps : List Process) → map timer_at (delivered r now kind i s ps).processes ≡ map timer_at ps
+  pub delivered_timers : (i : ℕ) (s : S) (ps : List Process) → map timer_at (delivered r now kind i s ps).processes ≡ map timer_at ps
   delivered_timers i s [] = refl
   delivered_timers i s (p ∷ ps) =
       let first = reacted r now i s p (wake_of kind i p) in

@@ -4,3 +4,4 @@ pub mod Opens
 pub mod Along
 pub mod Shares
 pub mod OfFitting
+pub mod Grouped

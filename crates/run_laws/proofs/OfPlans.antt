@@ -2,11 +2,11 @@
 use Rattle.std.proofs.Common.{◌≡◌, ◌⊎◌, ℕ, ◌+◌, ◌<◌, ◌≤◌, Bool, Option, Some, None, arith}
 use Rattle.event_order.specs.declared.key.Key.{Key}
 use Rattle.event_order.specs.Order.{IsBefore}
-use Rattle.event_order.specs.Pending.{Among}
+use Rattle.event_order.specs.Pending.{Among, IsRising}
 use Rattle.event_machine.specs.Machine.{within, all_kept}
-use Rattle.event_machine.specs.Run.{WrittenBefore, ExecutedWithin, Chain}
+use Rattle.event_machine.specs.Run.{WrittenBefore, ExecutedWithin, Arises, Chain}
 use Rattle.event_machine.proofs.Steps.{event_arises}
-use Rattle.event_machine.proofs.Keys.{keys_rise, pending_executed}
+use Rattle.event_machine.proofs.Keys.{keys_rise, pending_rises, one_key, pending_executed}
 use Rattle.event_machine.proofs.Rounds.{rounds, first_events_same}
 use Rattle.event_machine.proofs.Finite.{finite}
 use Rattle.ssf_model.specs.declared.event.Event.{Event}
@@ -22,6 +22,16 @@ module _ {B S P : Type 0} (r : Reaction S P) (plan : Plan B S P) (until : ℕ) (
   unfolding machine_of
   plan_keys_rise kept n k e d h p q =
       keys_rise (machine_of {B = B} r plan.mappings) until kept (opening plan) (known r plan.mappings) (lawful r plan.mappings) (opened r plan opens) n k e d h p q
+
+  pub plan_pending_rises : (kept : Key → Bool) (n : ℕ) → IsRising (λ (e : Event P). e.key) (world_after r plan until kept n).pending
+  unfolding machine_of
+  plan_pending_rises kept n = pending_rises (machine_of {B = B} r plan.mappings) until kept (opening plan) (known r plan.mappings) (lawful r plan.mappings) (opened r plan opens) n
+
+  pub plan_keys_apart : (kept : Key → Bool) (e d : Event P) → Arises (machine_of {B = B} r plan.mappings) until kept (opening plan) e →
+      Arises (machine_of {B = B} r plan.mappings) until kept (opening plan) d → e.key ≡ d.key → e ≡ d
+  unfolding machine_of
+  plan_keys_apart kept e d a b same =
+      one_key (machine_of {B = B} r plan.mappings) until kept (opening plan) (known r plan.mappings) (lawful r plan.mappings) (opened r plan opens) e d a b same
 
   pub plan_pending_executed : (kept : Key → Bool) (n end : ℕ) (e : Event P) → n ≤ end → run_event r plan until kept end ≡ None →
       Among e (world_after r plan until kept n).pending → e.key.time ≤ until → ExecutedWithin (machine_of {B = B} r plan.mappings) until kept (opening plan) n end e

@@ -5,9 +5,9 @@
 ghost use Rattle.std.specs.Prelude.{◌≡◌, ◌⊎◌, ℕ, ◌+◌, ◌<◌, ◌≤◌, Bool, length, Some, None};
 ghost use Rattle.event_order.specs.declared.key.Key.{Key as KeyValue};
 ghost use Rattle.event_order.specs.Order.{IsBefore};
-ghost use Rattle.event_order.specs.Pending.{Among};
+ghost use Rattle.event_order.specs.Pending.{Among, IsRising};
 ghost use Rattle.event_machine.specs.Machine.{within, all_kept};
-ghost use Rattle.event_machine.specs.Run.{WrittenBefore, ExecutedWithin, Chain};
+ghost use Rattle.event_machine.specs.Run.{WrittenBefore, ExecutedWithin, Arises, Chain, share, acted};
 ghost use Rattle.ssf_model.specs.declared.event.Event.{Event};
 ghost use Rattle.ssf_model.specs.declared.plan.Plan.{Plan};
 ghost use Rattle.ssf_model.specs.Reaction.{LatestTime};
@@ -15,6 +15,7 @@ ghost use Rattle.ssf_model.specs.Truth.{line_events};
 ghost use Rattle.ssf_model.specs.Run.{Fits, machine_of, opening, run_event, run_events, world_after};
 ghost use Rattle.ssf_model.specs.Drafts.{Draft, planned};
 ghost use Rattle.run_laws.specs.Joined.{IsWriteOf, IsPassedOn, IsAligned};
+ghost use Rattle.run_laws.specs.Groups.{IsSameGroup, is_own};
 ghost use Rattle.run_laws.specs.Openings.{OpensInOrder};
 
 use ssf_model::Behaviour;
@@ -36,6 +37,19 @@ pub fn keys_rise<B: Behaviour>()
         → IsBefore e.key d.key }
 {}
 
+/// What is pending stands in key order at every moment.
+pub fn pending_rises<B: Behaviour>()
+    ensures { (b : B) (plan : Plan B B.State B.Payload) (until : ℕ) (kept : KeyValue → Bool) → OpensInOrder plan
+        → (n : ℕ) → IsRising (λ (e : Event B.Payload). e.key) (world_after (B.reaction b) plan until kept n).pending }
+{}
+
+/// Of all that stands in the opening or is written, no two have one key.
+pub fn keys_are_apart<B: Behaviour>()
+    ensures { (b : B) (plan : Plan B B.State B.Payload) (until : ℕ) (kept : KeyValue → Bool) → OpensInOrder plan
+        → (e d : Event B.Payload) → Arises (machine_of (B.reaction b) plan.mappings) until kept (opening plan) e
+        → Arises (machine_of (B.reaction b) plan.mappings) until kept (opening plan) d → e.key ≡ d.key → e ≡ d }
+{}
+
 /// Each event is one of the opening's or was written by an earlier event.
 pub fn events_arise<B: Behaviour>()
     ensures { (b : B) (plan : Plan B B.State B.Payload) (until : ℕ) (kept : KeyValue → Bool) (n : ℕ) (e : Event B.Payload)
@@ -49,6 +63,16 @@ pub fn pending_is_executed<B: Behaviour>()
         → (n end : ℕ) (e : Event B.Payload) → n ≤ end → run_event (B.reaction b) plan until kept end ≡ None
         → Among e (world_after (B.reaction b) plan until kept n).pending → e.key.time ≤ until
         → ExecutedWithin (machine_of (B.reaction b) plan.mappings) until kept (opening plan) n end e }
+{}
+
+/// The state of a group of entities after some events of the run of a plan that fits, with the counts
+/// of the channels on which the group writes, is what the group's own events among them, one after
+/// another, make of the opening.
+pub fn groups_depend_on_own_events<B: Behaviour>()
+    ensures { (b : B) (plan : Plan B B.State B.Payload) (until : ℕ) (kept : KeyValue → Bool) (own : ℕ → Bool) → Fits (B.valid b) (B.carried b) plan → until ≤ LatestTime
+        → (n : ℕ) → IsSameGroup plan own (world_after (B.reaction b) plan until kept n).state
+        (acted (machine_of (B.reaction b) plan.mappings) (opening plan).state
+        (share (machine_of (B.reaction b) plan.mappings) until kept (opening plan) (is_own own) n)) }
 {}
 
 /// Before an event of round k stand k events at its time, one of each lower round, each of which
