@@ -1,3 +1,4 @@
 pub mod Named
 pub mod Openings
 pub mod Rings
+pub mod RingsFit

@@ -31,7 +31,7 @@ unfolding comes_before
 start_before P i j less = let e : Less ≡ nat_cmp i j = nat_cmp_is i j Less less in rw (← e) refl
 
 -- the events of a range of starts
-among_starts : (P : Type 0) (from n : ℕ) (d : Event P) → Among d (map start (range_with_len from n)) → (i : ℕ) × (from ≤ i) × (i < from + n) × (d ≡ start i)
+pub among_starts : (P : Type 0) (from n : ℕ) (d : Event P) → Among d (map start (range_with_len from n)) → (i : ℕ) × (from ≤ i) × (i < from + n) × (d ≡ start i)
 among_starts P from zero d among = absurd among
 among_starts P from (suc n) d (inl here) = (from, omega arith, omega arith, here)
 among_starts P from (suc n) d (inr later) =
@@ -122,7 +122,7 @@ pub length_entities : (B S P : Type 0) (timer : ℕ) (ds : List (DraftEntity S))
 length_entities B S P timer [] = refl
 length_entities B S P timer (d ∷ ds) = ap (λ n. suc n) (length_entities B S P (timer + timers d.timed) ds)
 
-length_channels : (first : ℕ) (ms : List Mapping) → length (with_channels first ms) ≡ length ms
+pub length_channels : (first : ℕ) (ms : List Mapping) → length (with_channels first ms) ≡ length ms
 length_channels first [] = refl
 length_channels first (m ∷ ms) = ap (λ n. suc n) (length_channels (first + 1) ms)
 

@@ -19,11 +19,11 @@ use Rattle.plan_opening.specs.Placed.{LeadsWithin, IsWhole}
 use Rattle.plan_opening.proofs.Openings.{length_entities}
 
 -- nothing is refused where no test holds
-not_refused : {T : Type 0} (test : Bool) (fault : T) (others : Option T) → cond test (Some fault) others ≡ None → (test ≡ false) × (others ≡ None)
+pub not_refused : {T : Type 0} (test : Bool) (fault : T) (others : Option T) → cond test (Some fault) others ≡ None → (test ≡ false) × (others ≡ None)
 not_refused true fault others none = absurd (cc)
 not_refused false fault others none = (refl, none)
 
-none_first : (a b : Option BuildFault) → first_of a b ≡ None → (a ≡ None) × (b ≡ None)
+pub none_first : (a b : Option BuildFault) → first_of a b ≡ None → (a ≡ None) × (b ≡ None)
 none_first None b none = (refl, none)
 none_first (Some fault) b none = absurd (cc)
 
@@ -34,11 +34,11 @@ room_of : (n : ℕ) → nat_le MostChannels n ≡ false → n < MostChannels
 room_of n test = grind arith
 
 -- a mapping that is not refused has room, and a delay in range
-record Allowed (d : Draft Ring RingState) (from to delay : ℕ) : Type 0 where
-  short : (out_at d from).delay + delay ≤ LongestDelay
-  room : channels_of d < MostChannels
+pub record Allowed (d : Draft Ring RingState) (from to delay : ℕ) : Type 0 where
+  pub short : (out_at d from).delay + delay ≤ LongestDelay
+  pub room : channels_of d < MostChannels
 
-allowed : (d : Draft Ring RingState) (from to delay : ℕ) → mapping_refusal d from to delay ≡ None → Allowed d from to delay
+pub allowed : (d : Draft Ring RingState) (from to delay : ℕ) → mapping_refusal d from to delay ≡ None → Allowed d from to delay
 allowed d from to delay none =
     let long : Bool = nat_lt LongestDelay ((out_at d from).delay + delay) in
     let full : Bool = nat_le MostChannels (channels_of d) in
@@ -59,15 +59,15 @@ each_more P [] y each here = (here, tt)
 each_more P (x ∷ xs) y each here = (each.0, each_more P xs y each.1 here)
 
 -- what holds of the draft of a ring with some of its hops
-record IsRingDraft (nodes : ℕ) (d : Draft Ring RingState) : Type 0 where
-  size : length d.entities ≡ nodes
-  untimed : all_timers d.entities ≡ 0
-  few : Each (λ e. length e.timed ≤ 2 ^ 32) d.entities
-  owners : (to : ℕ) → to < nodes → slice_index d.in_owners to ≡ to
-  leads : Each (LeadsWithin nodes) d.mappings
-  channels : channels_of d ≤ MostChannels
-  ins : length d.in_owners ≤ MostEnds
-  outs : length d.outs ≤ MostEnds
+pub record IsRingDraft (nodes : ℕ) (d : Draft Ring RingState) : Type 0 where
+  pub size : length d.entities ≡ nodes
+  pub untimed : all_timers d.entities ≡ 0
+  pub few : Each (λ e. length e.timed ≤ 2 ^ 32) d.entities
+  pub owners : (to : ℕ) → to < nodes → slice_index d.in_owners to ≡ to
+  pub leads : Each (LeadsWithin nodes) d.mappings
+  pub channels : channels_of d ≤ MostChannels
+  pub ins : length d.in_owners ≤ MostEnds
+  pub outs : length d.outs ≤ MostEnds
 
 one_channel : (d : Draft Ring RingState) (m : Mapping) → channels_of d < MostChannels → (let more : Draft Ring RingState = record d { mappings = d.mappings ++ m ∷ [] } in channels_of more ≤ MostChannels)
 one_channel d m room = let one : List Mapping = m ∷ [] in omega (arith, length-append d.mappings one)
@@ -89,7 +89,7 @@ with_hop nodes d hop is within none =
       outs = is.outs;
     }
 
-with_all : (nodes : ℕ) (d : Draft Ring RingState) (hops : List Hop) → IsRingDraft nodes d → All (λ (h : Hop). (h.from < nodes) × (h.to < nodes)) hops → hops_refusal d hops ≡ None
+pub with_all : (nodes : ℕ) (d : Draft Ring RingState) (hops : List Hop) → IsRingDraft nodes d → All (λ (h : Hop). (h.from < nodes) × (h.to < nodes)) hops → hops_refusal d hops ≡ None
     → IsRingDraft nodes (with_hops d hops)
 with_all nodes d [] is within none = is
 with_all nodes d (hop ∷ hops) is within none =
@@ -114,7 +114,7 @@ short_nodes : (f : ℕ → ℕ) (from n : ℕ) → Each (λ (e : DraftEntity Rin
 short_nodes f from zero = tt
 short_nodes f from (suc n) = (omega arith, short_nodes f (from + 1) n)
 
-bare_ring : (ring : Ring) (nodes : ℕ) (tokens : List ℕ) → nodes ≤ MostChannels → IsRingDraft nodes (ring_draft ring nodes tokens)
+pub bare_ring : (ring : Ring) (nodes : ℕ) (tokens : List ℕ) → nodes ≤ MostChannels → IsRingDraft nodes (ring_draft ring nodes tokens)
 unfolding ring_draft
 bare_ring ring nodes tokens few =
     let numbers : length (range_with_len 0 nodes) ≡ nodes = length-range_with_len 0 nodes in
@@ -131,7 +131,7 @@ bare_ring ring nodes tokens few =
       outs = omega (arith, map_long free_out (range_with_len 0 nodes));
     }
 
-few_of : (n : ℕ) → nat_lt MostChannels n ≡ false → n ≤ MostChannels
+pub few_of : (n : ℕ) → nat_lt MostChannels n ≡ false → n ≤ MostChannels
 few_of n test = grind arith
 
 -- the draft of a ring that was not refused, whose nodes are valid

@@ -1,10 +1,11 @@
 //! Laws over every plan. Each function's contract is a law, and its body is empty.
-ghost use Rattle.std.specs.Prelude.{◌≡◌, ◌<◌, ◌≤◌, ℕ, List, All, length, None, suc};
+ghost use Rattle.std.specs.Prelude.{◌≡◌, ◌<◌, ◌≤◌, ◌^◌, ℕ, List, All, length, None, suc};
 ghost use Rattle.event_machine.specs.Machine.{within};
 ghost use Rattle.ssf_model.specs.declared.event.Entry.{Entry};
 ghost use Rattle.ssf_model.specs.declared.plan.Plan.{Plan};
 ghost use Rattle.ssf_model.specs.Reaction.{Each, LatestTime};
 ghost use Rattle.ssf_model.specs.Drafts.{Draft, IsValidDraft, planned};
+ghost use Rattle.ssf_model.specs.Run.{Fits};
 ghost use Rattle.ring_model.specs.declared.ring.Ring.{Ring};
 ghost use Rattle.ring_model.specs.declared.ring.RingPayload.{RingPayload};
 ghost use Rattle.ring_model.specs.declared.ring.Hop.{Hop};
@@ -26,6 +27,13 @@ pub fn rings_can_run()
     ensures { (ring : Ring) (nodes : ℕ) (tokens : List ℕ) (hops : List Hop) → All (λ (h : Hop). (h.from < nodes) × (h.to < nodes)) hops
         → ring_refusal ring nodes tokens hops ≡ None → Each (IsValidDraft IsRing) (with_hops (ring_draft ring nodes tokens) hops).entities
         → IsRunnable IsRing AnyPayload (planned {P = RingPayload} (with_hops (ring_draft ring nodes tokens) hops)) }
+{}
+
+/// The plan of a ring that was not refused fits.
+pub fn rings_fit()
+    ensures { (ring : Ring) (nodes : ℕ) (tokens : List ℕ) (hops : List Hop) → Each (λ (h : Hop). (h.from < nodes) × (h.to < nodes) × (h.priority < 2 ^ 8)) hops
+        → ring_refusal ring nodes tokens hops ≡ None → Each (IsValidDraft IsRing) (with_hops (ring_draft ring nodes tokens) hops).entities
+        → Fits IsRing AnyPayload (planned {P = RingPayload} (with_hops (ring_draft ring nodes tokens) hops)) }
 {}
 
 /// The entries of a run are of the plan's entities.
