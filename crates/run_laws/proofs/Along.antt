@@ -1,11 +1,10 @@
 -- What holds all along the run of a plan, whatever its cut: it stays healthy, and no entity changes its channels.
-use Rattle.std.proofs.Common.{◌≡◌, ◌⊎◌, ℕ, zero, suc, ◌+◌, ◌<◌, ◌≤◌, Bool, true, false, nat_eq, List, [], ◌∷◌, ◌++◌, filter, map, refl, sym, ap, ◌∙◌, subst, inl, inr, arith, Option, Some, None, slice_get, slice_set, eqb-true, length}
+use Rattle.std.proofs.Common.{◌≡◌, ◌⊎◌, ℕ, zero, suc, ◌+◌, ◌≤◌, Bool, nat_eq, List, [], ◌∷◌, ◌++◌, filter, map, refl, sym, ap, ◌∙◌, subst, inl, inr, arith, Option, Some, None, slice_get, slice_set, eqb-true, length}
 use Rattle.std.specs.List.{flat_map}
 use Rattle.event_order.specs.declared.key.Key.{Key}
-use Rattle.event_order.specs.Order.{child_of}
 use Rattle.event_order.specs.Pending.{Among, put_all}
 use Rattle.event_order.proofs.Pending.{among_put_all_other, among_put_all_self, put_all_among, filter_among}
-use Rattle.event_machine.specs.Machine.{World, executed, stepped, after}
+use Rattle.event_machine.specs.Machine.{World, executed, after}
 use Rattle.event_machine.proofs.Steps.{step_cases, event_pending, event_in_time}
 use Rattle.ssf_model.specs.declared.wait.Wake.{Wake}
 use Rattle.ssf_model.specs.declared.wait.Kind.{Kind}
@@ -19,7 +18,7 @@ use Rattle.ssf_model.specs.declared.plan.Mapping.{Mapping}
 use Rattle.ssf_model.specs.declared.plan.Plan.{Plan}
 use Rattle.ssf_model.specs.Reaction.{Reaction, Validity, KeepsValid, LatestTime, Each}
 use Rattle.ssf_model.specs.Deliver.{IsModest, wake_of, reacted, delivered}
-use Rattle.ssf_model.specs.Channels.{Sent, message, wait_end, timer_of, sent, delivered_to, entity_after, sent_by}
+use Rattle.ssf_model.specs.Channels.{Sent, message, wait_end, timer_of, sent, delivered_to, entity_after}
 use Rattle.ssf_model.specs.Run.{States, acts_at, writes_at, machine_of, opening, world_after, run_event, Fits, IsMappingOf}
 use Rattle.global_list.specs.Pending.{key_of}
 use Rattle.global_list.specs.Healthy.{IsHealthy, IsRunnable}

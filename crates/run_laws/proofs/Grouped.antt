@@ -1,5 +1,5 @@
 -- A group of entities of a plan that fits depends on its own events alone.
-use Rattle.std.proofs.Common.{◌≡◌, ◌⊎◌, ℕ, zero, suc, ◌+◌, ◌<◌, ◌≤◌, Bool, true, false, cond, nat_eq, List, [], ◌∷◌, ◌++◌, map, length, refl, sym, ap, ◌∙◌, subst, inl, inr, arith, count_by, Option, Some, None, slice_get, slice_set, option_to_list, eqb-true, eq-eqb}
+use Rattle.std.proofs.Common.{◌≡◌, ℕ, zero, suc, ◌+◌, ◌<◌, ◌≤◌, Bool, true, false, cond, nat_eq, List, [], ◌∷◌, ◌++◌, map, length, refl, sym, ap, ◌∙◌, subst, inl, inr, arith, count_by, Option, Some, None, slice_get, slice_set, option_to_list, eqb-true}
 use Rattle.std.specs.List.{flat_map, range_with_len}
 use Rattle.event_order.specs.declared.key.Key.{Key}
 use Rattle.event_order.specs.Order.{child_of}
@@ -8,7 +8,6 @@ use Rattle.event_order.proofs.Pending.{test_cases, among_append_left, among_appe
 use Rattle.event_machine.specs.Run.{share, acted}
 use Rattle.event_machine.specs.Laws.{IsLocal}
 use Rattle.event_machine.proofs.Local.{own_state}
-use Rattle.ssf_model.specs.declared.out.Written.TheVariants.{Channel, Timer as TimerWrite}
 use Rattle.ssf_model.specs.declared.event.Event.{Event}
 use Rattle.ssf_model.specs.declared.process.Process.{Process}
 use Rattle.ssf_model.specs.declared.entity.Entity.{Entity}
@@ -16,15 +15,15 @@ use Rattle.ssf_model.specs.declared.plan.Mapping.{Mapping}
 use Rattle.ssf_model.specs.declared.plan.Plan.{Plan}
 use Rattle.ssf_model.specs.Reaction.{Reaction, Validity, KeepsValid, LatestTime}
 use Rattle.ssf_model.specs.Deliver.{IsModest}
-use Rattle.ssf_model.specs.Channels.{Sent, timer_of, delivered_to, entity_after, sent_by, raised, counted, numbered}
+use Rattle.ssf_model.specs.Channels.{Sent, timer_of, delivered_to, entity_after, sent_by, raised, numbered}
 use Rattle.ssf_model.specs.Run.{States, acts_at, writes_at, machine_of, opening, world_after, run_event, Fits, timers_of, HasAt}
 use Rattle.global_list.specs.Posting.{is_on}
 use Rattle.global_list.proofs.Posts.{counted_is, count_no}
 use Rattle.global_list.proofs.Healths.{get_set_own, get_set_other}
 use Rattle.global_list.proofs.FanOuts.{different}
 use Rattle.global_list.proofs.Fitting.{fits_runnable, among_range, above_range, within_of}
-use Rattle.run_laws.specs.Groups.{is_own, IsMappedFrom, IsTimerOf, WritesOn, IsSameGroup}
-use Rattle.run_laws.proofs.Along.{FromWrite, FromWait, sent_from, Stands, stands, leads_from, at_mapped, shape, Shape, timer_at, delivered_timers}
+use Rattle.run_laws.specs.Groups.{is_own, IsTimerOf, WritesOn, IsSameGroup}
+use Rattle.run_laws.proofs.Along.{sent_from, Stands, stands, leads_from, at_mapped, shape, Shape, timer_at, delivered_timers}
 
 -- ---- lists without repetitions
 

@@ -1,12 +1,9 @@
 -- The machine of a plan meets what the laws of machines ask.
-use Rattle.std.proofs.Common.{◌≡◌, ◌⊎◌, ℕ, zero, suc, ◌+◌, ◌<◌, ◌≤◌, Bool, true, false, cond, nat_eq, List, [], ◌∷◌, refl, sym, ap, ◌∙◌, subst, inl, inr, arith, Option, Some, None, slice_get, eq-eqb, add-one}
-use Rattle.std.proofs.lemmas.Bool.Decides.{eqb_tells}
+use Rattle.std.proofs.Common.{◌≡◌, ◌⊎◌, ℕ, suc, ◌+◌, ◌<◌, ◌≤◌, true, false, cond, nat_eq, List, [], ◌∷◌, refl, sym, ap, ◌∙◌, subst, inl, inr, arith, Option, Some, None, slice_get, eq-eqb}
 use Rattle.event_order.specs.declared.key.Key.{Key}
 use Rattle.event_order.specs.Order.{IsBefore, child_of}
-use Rattle.event_order.specs.Pending.{Among, IsApart, IsRising}
+use Rattle.event_order.specs.Pending.{Among, IsApart}
 use Rattle.event_order.proofs.Order.{child_after, child_cases}
-use Rattle.event_machine.specs.Machine.{Machine, World, within, all_kept}
-use Rattle.event_machine.specs.Run.{Chain, ExecutedWithin}
 use Rattle.event_machine.specs.Laws.{IsLawful, IsOpening, HasRounds}
 use Rattle.ssf_model.specs.declared.event.Event.{Event}
 use Rattle.ssf_model.specs.declared.entity.Entity.{Entity}

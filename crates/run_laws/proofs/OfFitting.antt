@@ -1,5 +1,5 @@
 -- The laws of plans that fit.
-use Rattle.std.proofs.Common.{◌≡◌, ◌⊎◌, ℕ, suc, ◌+◌, ◌<◌, ◌≤◌, Bool, true, nat_eq, nat_le, List, length, refl, sym, ap, ◌∙◌, subst, inl, inr, arith, Option, Some, None, slice_get, eqb-true, eq-eqb}
+use Rattle.std.proofs.Common.{◌≡◌, ℕ, ◌+◌, ◌<◌, ◌≤◌, Bool, true, length, refl, sym, ap, ◌∙◌, subst, inl, inr, arith, Some, slice_get, eqb-true, eq-eqb}
 use Rattle.event_order.specs.declared.key.Key.{Key}
 use Rattle.event_order.specs.Pending.{Among}
 use Rattle.event_machine.specs.Machine.{within, all_kept}
@@ -9,7 +9,6 @@ use Rattle.event_machine.proofs.Rounds.{rounds}
 use Rattle.event_machine.proofs.Steps.{le_test}
 use Rattle.ssf_model.specs.declared.out.Written.TheVariants.{Channel, Timer as TimerWrite}
 use Rattle.ssf_model.specs.declared.event.Event.{Event}
-use Rattle.ssf_model.specs.declared.entity.Entity.{Entity}
 use Rattle.ssf_model.specs.declared.plan.Mapping.{Mapping}
 use Rattle.ssf_model.specs.declared.plan.Plan.{Plan}
 use Rattle.ssf_model.specs.Reaction.{Reaction, Validity, KeepsValid, LatestTime}
@@ -24,7 +23,7 @@ use Rattle.global_list.proofs.Fitting.{fits_runnable}
 use Rattle.run_laws.specs.Joined.{IsPassedOn, IsAligned}
 use Rattle.run_laws.proofs.Lawful.{writes_rounded, rounds_opened}
 use Rattle.run_laws.proofs.Opens.{fits_open}
-use Rattle.run_laws.proofs.Along.{FromWrite, FromWait, sent_from, Stands, stands, leads_from}
+use Rattle.run_laws.proofs.Along.{sent_from, stands, leads_from}
 use Rattle.run_laws.proofs.Shares.{same_events}
 
 module _ {B S P : Type 0} (r : Reaction S P) (valid : Validity S) (carried : P → Type 0) (law : KeepsValid valid carried r) (modest : IsModest valid carried r)

@@ -1,5 +1,5 @@
 -- Which event writes which.
-use Rattle.std.specs.Prelude.{ℕ, ◌≡◌, nat_eq, List}
+use Rattle.std.specs.Prelude.{ℕ, ◌≡◌, List}
 use Rattle.event_order.specs.Pending.{Among}
 use Rattle.ssf_model.specs.declared.wait.Kind.TheVariants.{Message}
 use Rattle.ssf_model.specs.declared.out.Written.TheVariants.{Channel}
