@@ -1,28 +1,24 @@
 -- The plan of a draft has an opening from which a run can begin.
-use Rattle.std.proofs.Common.{ℕ, zero, suc, ◌≡◌, ◌<◌, ◌≤◌, ◌+◌, ◌*◌, ◌^◌, ◌∙◌, sym, ap, subst, refl, inl, inr, ◌⊎◌, List, [], ◌∷◌, ◌++◌, length, map, replicate, slice_get, slice_index, count_by, sum_by, Option, Some, None, IfSome, Bool, true, false, cond, arith, add-one, zero-add, add-zero, get_or, length-append}
+use Rattle.std.proofs.Common.{ℕ, zero, suc, ◌≡◌, ◌<◌, ◌≤◌, ◌+◌, ◌^◌, ◌∙◌, sym, ap, subst, refl, inl, inr, List, [], ◌∷◌, ◌++◌, length, map, replicate, slice_get, count_by, Option, Some, None, IfSome, Bool, true, false, cond, arith, get_or, length-append}
 use Rattle.std.specs.declared.cmp.Ordering.TheVariants.{Less}
 use Rattle.std.specs.Cmp.{nat_cmp_is}
 use Rattle.std.proofs.lemmas.List.Sums.{sum_by-cons}
 use Rattle.std.specs.List.{fold}
 use Rattle.std.proofs.lemmas.List.{length-replicate, get_or_append_left}
-use Rattle.std.proofs.lemmas.Grind.{common_steps}
 use Rattle.std.specs.List.{range_with_len}
 use Rattle.std.specs.Ordering.{nat_cmp}
-use Rattle.event_order.specs.declared.key.Key.{Key}
 use Rattle.event_order.specs.Order.{comes_before, IsBefore}
 use Rattle.event_order.specs.Pending.{Among, IsRising}
 use Rattle.ssf_model.specs.declared.wait.Wait.TheVariants.{Forever}
 use Rattle.ssf_model.specs.declared.event.Event.{Event}
-use Rattle.ssf_model.specs.declared.process.Process.{Process}
 use Rattle.ssf_model.specs.declared.entity.Entity.{Entity}
 use Rattle.ssf_model.specs.declared.builder.DraftEntity.{DraftEntity}
 use Rattle.ssf_model.specs.declared.plan.Mapping.{Mapping}
-use Rattle.ssf_model.specs.Reaction.{Validity, Each, is_timed, wait_of, LongestDelay}
-use Rattle.ssf_model.specs.Entities.{IsValidEntity}
-use Rattle.ssf_model.specs.Run.{opening, counts_of}
-use Rattle.ssf_model.specs.Drafts.{Draft, IsInRange as IsDraftInRange, IsValidDraft, planned, start, first_process, first_processes, first_entity, first_entities, with_channel, with_channels, timers, all_timers, MostChannels, channels_of}
+use Rattle.ssf_model.specs.Reaction.{Validity, Each, is_timed, wait_of}
+use Rattle.ssf_model.specs.Run.{counts_of}
+use Rattle.ssf_model.specs.Drafts.{Draft, IsValidDraft, planned, start, first_process, first_processes, first_entity, first_entities, with_channels, timers, all_timers, MostChannels}
 use Rattle.global_list.specs.Pending.{key_of}
-use Rattle.global_list.specs.Healthy.{IsInRange, IsHealthyEntity, IsHealthyEvent, IsHealthyMapping, IsOneChannelEach, IsHealthy, IsRunnable, IsGiven, MostCount}
+use Rattle.global_list.specs.Healthy.{IsInRange, IsHealthyEntity, IsHealthyEvent, IsHealthyMapping, IsOneChannelEach, IsRunnable, IsGiven}
 use Rattle.plan_opening.specs.Placed.{LeadsWithin, IsWhole}
 
 -- the start event of a later entity comes later

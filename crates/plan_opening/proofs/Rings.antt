@@ -1,5 +1,5 @@
 -- The draft of a ring that was not refused is whole.
-use Rattle.std.proofs.Common.{ℕ, zero, suc, ◌≡◌, ◌<◌, ◌≤◌, ◌+◌, ◌^◌, ◌∙◌, sym, ap, subst, refl, List, [], ◌∷◌, ◌++◌, length, map, slice_index, sum_by, Option, Some, None, Bool, true, false, cond, nat_lt, nat_le, arith, add-one, get_or, length-append, All}
+use Rattle.std.proofs.Common.{ℕ, zero, suc, ◌≡◌, ◌<◌, ◌≤◌, ◌+◌, ◌^◌, ◌∙◌, sym, ap, refl, List, [], ◌∷◌, ◌++◌, length, map, slice_index, Option, Some, None, Bool, true, false, cond, nat_lt, nat_le, arith, length-append, All}
 use Rattle.std.specs.List.{range_with_len}
 use Rattle.std.proofs.lemmas.List.FromFn.{get_or-range_with_len, length-range_with_len}
 use Rattle.std.proofs.lemmas.List.Sums.{sum_by-cons}
@@ -8,7 +8,7 @@ use Rattle.ssf_model.specs.declared.builder.BuildFault.TheVariants.{UnknownChann
 use Rattle.ssf_model.specs.declared.builder.DraftEntity.{DraftEntity}
 use Rattle.ssf_model.specs.declared.plan.Mapping.{Mapping}
 use Rattle.ssf_model.specs.Reaction.{Each, LongestDelay}
-use Rattle.ssf_model.specs.Drafts.{Draft, IsInRange, IsValidDraft, MostChannels, MostEnds, channels_of, all_timers, timers, with_mapping, mapping_refusal, out_at, planned}
+use Rattle.ssf_model.specs.Drafts.{Draft, IsValidDraft, MostChannels, MostEnds, channels_of, all_timers, timers, with_mapping, mapping_refusal, out_at, planned}
 use Rattle.ring_model.specs.declared.ring.Ring.{Ring}
 use Rattle.ring_model.specs.declared.ring.RingState.{RingState}
 use Rattle.ring_model.specs.declared.ring.RingPayload.{RingPayload}

@@ -1,10 +1,8 @@
 -- The plan of a ring that was not refused fits.
-use Rattle.std.proofs.Common.{ℕ, zero, suc, ◌≡◌, ◌<◌, ◌≤◌, ◌+◌, ◌*◌, ◌^◌, ◌∙◌, sym, ap, subst, refl, inl, inr, List, [], ◌∷◌, ◌++◌, length, map, replicate, slice_get, slice_index, slice_index_or, nat_lt, Option, Some, None, arith, add-one, zero-add, add-zero, length-append, All}
+use Rattle.std.proofs.Common.{ℕ, zero, suc, ◌≡◌, ◌<◌, ◌≤◌, ◌+◌, ◌*◌, ◌^◌, ◌∙◌, sym, ap, subst, refl, inl, inr, List, [], ◌∷◌, ◌++◌, length, map, replicate, slice_get, slice_index, slice_index_or, nat_lt, Some, None, arith, zero-add, add-zero, length-append, All}
 use Rattle.std.specs.List.{range_with_len}
-use Rattle.std.proofs.lemmas.List.FromFn.{get_or-range_with_len, length-range_with_len}
 use Rattle.std.proofs.lemmas.List.{length-replicate}
 use Rattle.event_order.specs.Pending.{Among}
-use Rattle.ssf_model.specs.declared.wait.Wait.TheVariants.{Forever}
 use Rattle.ssf_model.specs.declared.builder.BuildFault.TheVariants.{TooManyChannels}
 use Rattle.ssf_model.specs.declared.builder.OutChannel.{OutChannel}
 use Rattle.ssf_model.specs.declared.event.Event.{Event}
@@ -14,8 +12,8 @@ use Rattle.ssf_model.specs.declared.plan.Plan.{Plan}
 use Rattle.ssf_model.specs.Reaction.{Each, LongestDelay}
 use Rattle.ssf_model.specs.Entities.{IsValidEntity}
 use Rattle.ssf_model.specs.Drafts.{Draft, IsValidDraft, mapping_refusal, with_mapping, out_at, planned, start, first_entities, with_channels, all_timers, MostChannels}
-use Rattle.ssf_model.specs.Run.{Fits, HasAt, IsMappingOf, IsProcessOf, IsPending, timers_of, counts_of, opening}
-use Rattle.global_list.specs.Healthy.{IsRunnable, IsHealthyEntity, IsHealthy}
+use Rattle.ssf_model.specs.Run.{Fits, IsMappingOf, IsProcessOf, IsPending, timers_of, counts_of}
+use Rattle.global_list.specs.Healthy.{IsRunnable, IsHealthyEntity}
 use Rattle.global_list.proofs.Posts.{each_append}
 use Rattle.global_list.proofs.Sends.{each_of}
 use Rattle.ring_model.specs.declared.ring.Ring.{Ring}
@@ -24,7 +22,6 @@ use Rattle.ring_model.specs.declared.ring.RingPayload.{RingPayload}
 use Rattle.ring_model.specs.declared.ring.Hop.{Hop}
 use Rattle.ring_model.specs.Reacting.{IsRing, AnyPayload}
 use Rattle.ring_model.specs.Rings.{ring_draft, with_hops, hops_refusal, ring_refusal, node_of, tokens_of, free_out}
-use Rattle.plan_opening.specs.Placed.{IsWhole}
 use Rattle.plan_opening.proofs.Openings.{planned_runnable, among_starts, length_channels, length_entities}
 use Rattle.plan_opening.proofs.Rings.{IsRingDraft, allowed, none_first, not_refused, few_of, bare_ring, with_all, ring_whole}
 

@@ -1,6 +1,5 @@
 -- Drafts of plans whose mappings lead to entities that there are.
-use Rattle.std.specs.Prelude.{ℕ, suc, ◌≡◌, ◌<◌, ◌≤◌, ◌^◌, List, [], ◌∷◌, length}
-use Rattle.ssf_model.specs.declared.builder.DraftEntity.{DraftEntity}
+use Rattle.std.specs.Prelude.{ℕ, ◌<◌, ◌≤◌, ◌^◌, length}
 use Rattle.ssf_model.specs.declared.plan.Mapping.{Mapping}
 use Rattle.ssf_model.specs.Drafts.{Draft, IsInRange, IsValidDraft}
 use Rattle.ssf_model.specs.Reaction.{Validity, Each, LongestDelay}
