@@ -1,4 +1,5 @@
 pub mod EachText
+pub mod InOrder
 pub mod OneSplit
 pub mod Runs
 pub mod TokenBytes

@@ -33,9 +33,12 @@ module _ (bytes : List ℕ) where
   token_at (Some kind.Word) at front rest tokens is e all =
       (subst (λ (word : List ℕ). (0 < length word) × AllByRecursion (λ byte. is_word_byte byte ≡ true) word) (sym (slice_at at front rest e)) (is.0, is.1.all), all)
   token_at (Some kind.Quoted) at front rest tokens (text, f, none) e all =
-      (subst (AllByRecursion (λ byte. not (byte == 34) ≡ true)) (sym (slice_within at text rest (at + length front) (e ∙ ap (λ l. l ++ rest) f) (ap (λ l. at + length l) f))) none, all)
-  token_at (Some kind.LeftBracket) at front rest tokens is e all = (tt, all)
-  token_at (Some kind.RightBracket) at front rest tokens is e all = (tt, all)
+      let within = slice_within at text rest (at + length front) (e ∙ ap (λ l. l ++ rest) f) (ap (λ l. at + length l) f) in (
+        (slice_at at front rest e ∙ f ∙ ap (λ l. 34 ∷ (l ++ 34 ∷ [])) (sym within), subst (AllByRecursion (λ byte. not (byte == 34) ≡ true)) (sym within) none),
+        all,
+      )
+  token_at (Some kind.LeftBracket) at front rest tokens is e all = (slice_at at front rest e ∙ is, all)
+  token_at (Some kind.RightBracket) at front rest tokens is e all = (slice_at at front rest e ∙ is, all)
 
   tokens_at : (at : ℕ) (fronts : List Front) → AreFronts fronts [] → drop at bytes ≡ text_of fronts → AllByRecursion (HasItsBytes bytes) (tokens_from at fronts)
   tokens_at at [] are e = tt

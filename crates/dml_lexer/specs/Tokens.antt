@@ -119,13 +119,20 @@ pub record LiesIn (end : ℕ) (token : Token) : Type 0 where
   pub least : token.from + least_length token.kind ≤ token.to
   pub last : token.to ≤ end
 
--- the bytes that a token of this kind spans: those of a word are word bytes, and at least one; between the quotes of a
--- quoted text no quote stands
+-- The bytes that a token of this kind spans. Those of a word are word bytes, and at least one. A quoted text is a
+-- quote, the bytes between, none of them a quote, and again a quote. A bracket is its one byte.
 abbrev pub SpansBytes : List ℕ → TokenKind → ℕ → ℕ → Type 0
 SpansBytes bytes kind.Word from to = (0 < length (slice_range bytes from to)) × AllByRecursion (λ byte. is_word_byte byte ≡ true) (slice_range bytes from to)
-SpansBytes bytes kind.Quoted from to = AllByRecursion (λ byte. not (byte == 34) ≡ true) (slice_range bytes (from + 1) (to - 1))
-SpansBytes bytes kind.LeftBracket from to = Unit {0}
-SpansBytes bytes kind.RightBracket from to = Unit {0}
+SpansBytes bytes kind.Quoted from to =
+    (slice_range bytes from to ≡ 34 ∷ (slice_range bytes (from + 1) (to - 1) ++ 34 ∷ []))
+    × AllByRecursion (λ byte. not (byte == 34) ≡ true) (slice_range bytes (from + 1) (to - 1))
+SpansBytes bytes kind.LeftBracket from to = slice_range bytes from to ≡ 91 ∷ []
+SpansBytes bytes kind.RightBracket from to = slice_range bytes from to ≡ 93 ∷ []
 
 abbrev pub HasItsBytes : List ℕ → Token → Type 0
 HasItsBytes bytes token = SpansBytes bytes token.kind token.from token.to
+
+-- the tokens stand one after another from this place on, and none of them is empty
+abbrev pub AreInOrder : ℕ → List Token → Type 0
+AreInOrder at [] = Unit {0}
+AreInOrder at (token ∷ tokens) = (at ≤ token.from) × (token.from < token.to) × AreInOrder token.to tokens

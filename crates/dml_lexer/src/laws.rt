@@ -2,7 +2,7 @@
 ghost use Rattle.std.specs.Prelude.{◌≡◌, ◌⊎◌, ℕ, List, All};
 ghost use Rattle.dml_lexer.specs.declared.lexer.Token.{Token};
 ghost use Rattle.dml_lexer.specs.declared.lexer.LexFault.TheVariants.{BadByte, OpenQuote};
-ghost use Rattle.dml_lexer.specs.Tokens.{Spelt, Unspelt, HasItsBytes};
+ghost use Rattle.dml_lexer.specs.Tokens.{Spelt, Unspelt, HasItsBytes, AreInOrder};
 
 /// A text has at most one list of tokens.
 pub fn one_list()
@@ -27,8 +27,13 @@ pub fn one_fault()
     ensures not_both { (bytes : List ℕ) (at other : ℕ) → Unspelt bytes (BadByte at) → ¬ (Unspelt bytes (OpenQuote other)) }
 {}
 
-/// Each token of a text has the bytes of its kind: those of a word are word bytes, and at least one, and no quote
-/// stands between the two of a quoted text.
+/// Each token of a text has the bytes of its kind: those of a word are word bytes, and at least one; a quoted text
+/// begins and ends with a quote, and no quote stands between the two; a bracket is its one byte.
 pub fn tokens_have_their_bytes()
     ensures { (bytes : List ℕ) (tokens : List Token) → Spelt bytes tokens → All (HasItsBytes bytes) tokens }
+{}
+
+/// The tokens of a text stand one after another, and none is empty.
+pub fn tokens_are_in_order()
+    ensures { (bytes : List ℕ) (tokens : List Token) → Spelt bytes tokens → AreInOrder 0 tokens }
 {}

@@ -4,7 +4,7 @@ ghost use Rattle.dml_lexer.specs.declared.lexer.LexFault.TheVariants.{Memory};
 ghost use Rattle.dml_lexer.specs.Tokens.{Spelt, Unspelt, LiesIn};
 
 use crate::fronts::{FirstFront, front};
-use std::alloc::{AllocError, AllocFailed, Global};
+use std::alloc::{AllocFailed, Global};
 use thiserror::Error;
 
 /// The longest text that is read, in bytes.
@@ -27,11 +27,14 @@ pub enum TokenKind {
 #[derive(Clone, Copy, Debug, PartialEq, Eq)]
 pub struct Token {
     pub kind: TokenKind,
+    /// How many bytes of the text stand before its first byte.
     pub from: u32,
+    /// How many bytes of the text stand up to its last byte, which counts too; more than `from`, and at most the
+    /// length of the text.
     pub to: u32,
 }
 
-/// Why a text has no tokens.
+/// Why a text has no tokens. A place is the number of bytes before it.
 #[derive(Debug, PartialEq, Eq, Drop, Error)]
 pub enum LexFault {
     /// No front begins with the byte at this place.
@@ -53,7 +56,7 @@ impl<T: Drop> From<AllocFailed<T>> for LexFault {
     }
 }
 
-/// The tokens of a text in order, each with its span.
+/// The tokens of a text in order, each with its span. The text has at most 16,777,216 bytes (`MOST_BYTES`).
 ///
 /// # Errors
 /// `BadByte` at the first byte that begins no front, where no quote before it is open; `OpenQuote` at a

@@ -43,7 +43,7 @@ module _ (file : ℕ) (bytes : List ℕ) where
 
   has_no_quote : (kind : TokenKind) (from to : ℕ) (text : List ℕ) → IsTextOf bytes kind from to text → SpansBytes bytes kind from to → HasNoQuote text
   has_no_quote Word from to text is has = subst HasNoQuote (sym is) (word_has_no_quote _ has.1)
-  has_no_quote Quoted from to text is has = subst HasNoQuote (sym is) has
+  has_no_quote Quoted from to text is has = subst HasNoQuote (sym is) has.1
   has_no_quote LeftBracket from to text is has = absurd is
   has_no_quote RightBracket from to text is has = absurd is
 
