@@ -15,7 +15,7 @@ use Rattle.dml_tree.specs.Printing.{printing, blanks, is_bare}
 use Rattle.dml_tree.specs.Reading.{ReadsBack}
 use Rattle.dml_tree.specs.SameTree.{same_tree, same_text}
 use Rattle.dml_tree.proofs.SameLists.{all_and}
-use Rattle.dml_tree.proofs.Spellable.{Spellable, HasNoQuote, spellable}
+use Rattle.dml_tree.proofs.Spellable.{Spellable, HasNoQuote, spellable, spellable_alike}
 
 abbrev blank : ℕ → Front
 blank byte = record { kind = None; bytes = byte ∷ [] }
@@ -233,8 +233,8 @@ module _ (file : ℕ) (bytes : List ℕ) where
 
 -- the printing reads back as an equal tree
 pub reads_back : (tree : Attributes) → ReadsBack (printing 0 tree) tree
-reads_back tree file number bytes h short =
-    let s : Spellable 0 tree = spellable file bytes 0 h.tokens tree (tokens_have_their_bytes bytes h.tokens h.spelt) h.spells in
+reads_back tree file number bytes tokens like spelt spells same short =
+    let s : Spellable 0 tree = spellable_alike 0 like tree same (spellable file bytes 0 tokens like (tokens_have_their_bytes bytes tokens spelt) spells) in
     let text : List ℕ = printing 0 tree in
     let cover : text ≡ text_of (fronts 0 tree []) = sym (text_of-fronts 0 tree [] ∙ append-nil text) in
     let b = back number text 0 0 0 tree [] s cover in (

@@ -1,6 +1,9 @@
 -- What a tree has that some bytes spell: keys of word bytes, texts without a quote, and few lists within one another.
-use Rattle.std.proofs.Common.{◌≡◌, ℕ, ◌+◌, ◌<◌, ◌==◌, true, not, List, [], ◌∷◌, ◌++◌, length, sym, subst, arith}
+use Rattle.std.proofs.Common.{◌≡◌, ℕ, Bool, false, ◌&&◌, refl, ap, ◌∙◌, ◌+◌, ◌<◌, ◌==◌, true, not, List, [], ◌∷◌, ◌++◌, length, sym, subst, arith}
 use Rattle.std.specs.List.{AllByRecursion}
+use Rattle.std.specs.Prelude.{nat_eq}
+use Rattle.std.proofs.lemmas.Bool.{eqb-true}
+use Rattle.dml_tree.specs.SameTree.{same_tree, same_text}
 use Rattle.std.proofs.lemmas.Bool.Decides.{nat_tests}
 use Rattle.dml_lexer.specs.declared.lexer.Token.{Token}
 use Rattle.dml_lexer.specs.declared.lexer.TokenKind.{TokenKind}
@@ -59,3 +62,43 @@ module _ (file : ℕ) (bytes : List ℕ) where
         spellable (depth + 1) body inner (all_first (HasItsBytes bytes) body (r ∷ more) all.1.1) si,
         spellable depth more rest (all_last (HasItsBytes bytes) body (r ∷ more) all.1.1).1 s,
       )
+
+first_so : (a b : Bool) → (a && b) ≡ true → a ≡ true
+first_so true b e = refl
+first_so false b e = e
+
+then_so : (a b : Bool) → (a && b) ≡ true → b ≡ true
+then_so true b e = e
+then_so false true e = refl
+then_so false false e = e
+
+-- equal texts are one
+one_text : (a b : List ℕ) → same_text a b ≡ true → a ≡ b
+one_text [] [] e = refl
+one_text [] (y ∷ b) e = absurd (let f : false ≡ true = e in cc)
+one_text (x ∷ a) [] e = absurd (let f : false ≡ true = e in cc)
+one_text (x ∷ a) (y ∷ b) e =
+    ap (λ n. n ∷ a) (eqb-true x y (first_so (nat_eq x y) (same_text a b) e)) ∙ ap (λ l. y ∷ l) (one_text a b (then_so (nat_eq x y) (same_text a b) e))
+
+-- so is a tree that equals such a tree
+pub spellable_alike : (depth : ℕ) (t u : Attributes) → same_tree t u ≡ true → Spellable depth t → Spellable depth u
+spellable_alike depth none none e s = tt
+spellable_alike depth none (plain key place text rest) e s = absurd (let f : false ≡ true = e in cc)
+spellable_alike depth none (list key place inner rest) e s = absurd (let f : false ≡ true = e in cc)
+spellable_alike depth (plain key place text rest) none e s = absurd (let f : false ≡ true = e in cc)
+spellable_alike depth (plain key place text rest) (list key' place' inner' rest') e s = absurd (let f : false ≡ true = e in cc)
+spellable_alike depth (list key place inner rest) none e s = absurd (let f : false ≡ true = e in cc)
+spellable_alike depth (list key place inner rest) (plain key' place' text' rest') e s = absurd (let f : false ≡ true = e in cc)
+spellable_alike depth (plain key place text rest) (plain key' place' text' rest') e s =
+    let e2 = first_so (same_text key key' && same_text text text') (same_tree rest rest') e in (
+      subst IsKeyText (one_text key key' (first_so (same_text key key') (same_text text text') e2)) s.0,
+      subst HasNoQuote (one_text text text' (then_so (same_text key key') (same_text text text') e2)) s.1,
+      spellable_alike depth rest rest' (then_so (same_text key key' && same_text text text') (same_tree rest rest') e) s.2,
+    )
+spellable_alike depth (list key place inner rest) (list key' place' inner' rest') e s =
+    let e2 = first_so (same_text key key' && same_tree inner inner') (same_tree rest rest') e in (
+      subst IsKeyText (one_text key key' (first_so (same_text key key') (same_tree inner inner') e2)) s.0,
+      s.1,
+      spellable_alike (depth + 1) inner inner' (then_so (same_text key key') (same_tree inner inner') e2) s.2,
+      spellable_alike depth rest rest' (then_so (same_text key key' && same_tree inner inner') (same_tree rest rest') e) s.3,
+    )

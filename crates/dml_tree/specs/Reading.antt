@@ -57,9 +57,10 @@ abbrev pub Answers : (Result Attributes TreeFault → Type 0) → Result Attribu
 Answers Means (Ok tree) = Means (Ok tree)
 Answers Means (Err reason) = AnswersFault Means reason
 
--- Where some bytes spell the tree and this text is not too long, the text reads back as an equal tree, whatever number
--- its file has.
+-- Where some bytes spell an equal tree and this text is not too long, the text reads back as an equal tree, whatever
+-- number its file has. Neither the places of the tree nor the length of those bytes matter.
 abbrev pub ReadsBack : List ℕ → Attributes → Type 0
 ReadsBack text tree =
-    (file number : ℕ) (bytes : List ℕ) → Reads file bytes (Ok tree) → length text ≤ most_bytes
+    (file number : ℕ) (bytes : List ℕ) (tokens : List Token) (like : Attributes)
+    → Spelt bytes tokens → Spells file bytes 0 tokens like → same_tree like tree ≡ true → length text ≤ most_bytes
     → (again : Attributes) × Reads number text (Ok again) × (same_tree again tree ≡ true)

@@ -1,7 +1,11 @@
-//! Laws of the grammar: what holds of every list of tokens and of every file, whatever code reads them.
-ghost use Rattle.std.specs.Prelude.{◌≡◌, ℕ, List, ◌∷◌, ◌++◌, Result, Some};
+//! Laws of trees and of the grammar: what holds of every tree, every list of tokens and every file, whatever code
+//! reads them.
+ghost use Rattle.std.specs.Prelude.{◌≡◌, ◌<◌, ℕ, List, ◌∷◌, ◌++◌, length, get_or, Result, Some};
 ghost use Rattle.dml_lexer.specs.declared.lexer.Token.{Token};
-ghost use Rattle.dml_tree.specs.Attributes.{Attributes};
+ghost use Rattle.dml_tree.specs.Attributes.{Attributes, weight};
+ghost use Rattle.dml_tree.specs.declared.tree.Attribute.{Attribute};
+ghost use Rattle.dml_tree.specs.declared.tree.Value.TheVariants as value;
+ghost use Rattle.dml_tree.specs.TreeView.{tree_of, attributes, joined};
 ghost use Rattle.dml_tree.specs.declared.reading.TreeFault.{TreeFault};
 ghost use Rattle.dml_tree.specs.Grammar.{Spells, Faulted, Begins, Wanted, refusal};
 ghost use Rattle.dml_tree.specs.Reading.{Reads, ReadsBack};
@@ -42,8 +46,22 @@ pub fn one_meaning()
     ensures { (file : ℕ) (bytes : List ℕ) (meaning other : Result Attributes TreeFault) → Reads file bytes meaning → Reads file bytes other → meaning ≡ other }
 {}
 
-/// What is printed reads back: where some bytes spell a tree and its canonical printing has at most 16,777,216 bytes,
-/// the printing spells an equal tree.
+/// What is printed reads back: where some bytes spell an equal tree and the canonical printing has at most
+/// 16,777,216 bytes, the printing spells an equal tree.
 pub fn reads_back()
     ensures { (tree : Attributes) → ReadsBack (printing 0 tree) tree }
+{}
+
+/// A tree and its list of attributes are made of one another, and the tree of two lists, one after the other, is their
+/// two trees joined.
+pub fn trees_are_lists()
+    ensures attributes_of_tree { (list : List Attribute) → attributes (tree_of list) ≡ list }
+    ensures tree_of_attributes { (tree : Attributes) → tree_of (attributes tree) ≡ tree }
+    ensures joined { (first second : List Attribute) → tree_of (first ++ second) ≡ joined (tree_of first) (tree_of second) }
+{}
+
+/// A list that is the value of an attribute weighs less than the tree that holds the attribute: inner attributes count
+/// too.
+pub fn inner_lists_are_lighter()
+    ensures { (tree : Attributes) (items : List Attribute) → items ≡ attributes tree → (at : ℕ) (default : Attribute) (inner : Attributes) → at < length items → (get_or items at default).value ≡ value.List inner → weight inner < weight tree }
 {}

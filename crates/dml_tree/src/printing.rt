@@ -13,8 +13,8 @@ use sim_base::{Memory, Text};
 /// its own, indented by two spaces for each open list. A text is bare where it is not empty and has word
 /// bytes alone, else it stands between quotes.
 ///
-/// What is appended reads back as an equal tree, where some bytes spell the tree and it has at most
-/// 16,777,216 bytes.
+/// What is appended reads back as an equal tree, where some bytes spell an equal tree and what is appended has at
+/// most 16,777,216 bytes. Places do not matter, so this holds of joined trees and of trees made by hand too.
 ///
 /// # Errors
 /// Without memory nothing is appended.
