@@ -173,9 +173,8 @@ impl Builder {
             attributes,
             key,
         } = self;
-        match key {
-            Some(_key) => return Err(TreeFault::ValueWanted(end)),
-            None => {}
+        if let Some(_key) = key {
+            return Err(TreeFault::ValueWanted(end));
         }
         if let Some(list) = opened.pop() {
             return Err(TreeFault::OpenList(list.bracket));

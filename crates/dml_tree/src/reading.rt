@@ -12,7 +12,7 @@ use sim_base::Memory;
 use std::alloc::{AllocFailed, Global};
 use thiserror::Error;
 
-/// Why a text has no tree. A number is the place of the byte at which the fault stands.
+/// Why a text has no tree. A number is the place at which the fault stands: how many bytes stand before it.
 #[derive(Debug, PartialEq, Eq, Drop, Error)]
 pub enum TreeFault {
     /// No token begins with this byte.

@@ -5,10 +5,12 @@ ghost use Rattle.dml_tree.specs.TreeView.{tree_of, attributes, joined};
 use sim_base::{Memory, Text};
 use std::marker::Model;
 
-/// Where something stands: the number of the file, from 0, and the byte in it.
+/// Where something stands: in which file, and where in it.
 #[derive(Clone, Copy, Debug, PartialEq, Eq)]
 pub struct Place {
+    /// The number of the file, from 0.
     pub file: u32,
+    /// How many bytes of the file stand before it.
     pub at: u32,
 }
 

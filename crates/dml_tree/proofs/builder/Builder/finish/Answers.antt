@@ -6,6 +6,6 @@ use Rattle.dml_tree.proofs.builder.Builder.finish.Goals as goal
 
 pub returns-in-Some-pop-clause-fault : goal.returns-in-Some-pop-clause-fault
 returns-in-Some-pop-clause-fault c =
-    ap (λ k. end_refusal (wanted k) (brackets c.args.self.opened.items) c.args.end) c.in-None.is
+    ap (λ k. end_refusal (wanted k) (brackets c.args.self.opened.items) c.args.end) c.in_default.is
     ∙ ap (λ os. end_refusal key_wanted (brackets os) c.args.end) c.in-Some-pop.ensures.items
     ∙ end_of_last c.pop.new.self.items c.in-Some-pop.list c.args.end
