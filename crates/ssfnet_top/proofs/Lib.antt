@@ -1,4 +1,3 @@
-pub mod Absences
 pub mod Endings
 pub mod FilesRead
 pub mod Naming
@@ -6,3 +5,4 @@ pub mod OneOutcome
 pub mod Pieces
 pub mod RunOutcome
 pub mod Walking
+pub mod Weights

@@ -1,5 +1,5 @@
 -- There is at most one outcome.
-use Rattle.std.proofs.Common.{ℕ, ◌≡◌, ◌<◌, ◌≤◌, ◌+◌, ◌⊎◌, inl, inr, ◌∙◌, sym, ap, refl, List, [], ◌∷◌, length, Option, Some, None, IsSome, Result, Ok, Err, arith}
+use Rattle.std.proofs.Common.{ℕ, ◌≡◌, ◌<◌, ◌≤◌, ◌+◌, ◌⊎◌, inl, inr, ◌∙◌, sym, ap, refl, true, false, List, [], ◌∷◌, length, Option, Some, None, IsSome, Result, Ok, Err, arith}
 use Rattle.sim_base.specs.Outside.{Files}
 use Rattle.dml_tree.specs.Attributes.{Attributes}
 use Rattle.dml_tree.specs.TreeView.{joined}
@@ -21,7 +21,7 @@ use Rattle.ssfnet_top.specs.declared.command.Command.{Command}
 use Rattle.ssfnet_top.specs.declared.command.Command.TheVariants as commands
 use Rattle.ssfnet_top.specs.declared.refusal.Refusal.{Refusal}
 use Rattle.ssfnet_top.specs.Words.{Asked, asked_of_words}
-use Rattle.ssfnet_top.specs.Outcome.{Due, done, meant, IsRead, AreRead, model_of, HasEvents, IsWithin, IsOver, IsModelRun, IsCommandDue, IsTreeDue, IsAskedDue, IsOutcome}
+use Rattle.ssfnet_top.specs.Outcome.{Due, done, meant, IsRead, AreRead, resolved_of, model_of, HasEvents, IsWithin, IsOver, IsModelRun, IsPrinted, IsCommandDue, IsTreeDue, IsAskedDue, IsOutcome}
 
 -- a file has one reading
 read_once : (name : List ℕ) (number : ℕ) (o : Option (List ℕ)) (a b : Result Attributes Refusal) → IsRead name number o a → IsRead name number o b → a ≡ b
@@ -85,12 +85,17 @@ model_once until budget (Ok built) due other p q =
     run_once ring_reaction built.plan until budget built.names budget due other (p budget here) (q budget here)
 model_once until budget (Err r) due other p q = p ∙ sym q
 
-command_once : (command : Command) (files : ℕ) (tree : Attributes) (due other : Due) → IsCommandDue command files tree due → IsCommandDue command files tree other → due ≡ other
-command_once commands.Dml files tree due other p q = p ∙ sym q
-command_once (commands.Seq until budget) files tree due other p q = model_once until budget (model_of files tree) due other p q
+printed_once : (tree : Result Attributes Refusal) (due other : Due) → IsPrinted tree due → IsPrinted tree other → due ≡ other
+printed_once (Ok tree) due other p q = p ∙ sym q
+printed_once (Err r) due other p q = p ∙ sym q
+
+command_once : (command : Command) (names : List (List ℕ)) (tree : Attributes) (due other : Due) → IsCommandDue command names tree due → IsCommandDue command names tree other → due ≡ other
+command_once (commands.Dml false) names tree due other p q = p ∙ sym q
+command_once (commands.Dml true) names tree due other p q = printed_once (resolved_of names tree) due other p q
+command_once (commands.Seq until budget) names tree due other p q = model_once until budget (model_of names tree) due other p q
 
 tree_once : (asked : Asked) (tree : Result Attributes Refusal) (due other : Due) → IsTreeDue asked tree due → IsTreeDue asked tree other → due ≡ other
-tree_once asked (Ok tree) due other p q = command_once asked.command (length asked.files) tree due other p q
+tree_once asked (Ok tree) due other p q = command_once asked.command asked.files tree due other p q
 tree_once asked (Err r) due other p q = p ∙ sym q
 
 asked_once : (files : Files) (asked : Option Asked) (due other : Due) → IsAskedDue files asked due → IsAskedDue files asked other → due ≡ other

@@ -1,47 +1,51 @@
 -- One word more of a walk.
-use Rattle.std.proofs.Common.{ℕ, ◌≡◌, ◌∙◌, sym, ap, refl, List, [], ◌∷◌, ◌++◌, append_assoc, append-nil, take-append-drop, drop-cons, ◌<◌, length, get_or, take, drop, suc, filter, string_bytes, String, Option, Some, None, true, map}
+use Rattle.std.proofs.Common.{ℕ, ◌≡◌, ◌∙◌, sym, ap, refl, List, [], ◌∷◌, ◌++◌, append_assoc, append-nil, take-append-drop, drop-cons, ◌<◌, length, get_or, take, drop, suc, filter, string_bytes, String, Option, Some, None, true, false, map}
 use Rattle.std.specs.Option.{option_map}
 use Rattle.std.specs.declared.alloc.Global.{Global}
 use Rattle.std.proofs.lemmas.List.Elements.{filter-append}
 use Rattle.std.proofs.lemmas.List.{map-append}
 use Rattle.ssfnet_top.specs.GivenOption.{texts_of}
-use Rattle.ssfnet_top.specs.Words.{Assigned, assigned, with_file, with_option, is_plain_word, values_of, same_text}
+use Rattle.ssfnet_top.specs.Words.{Assigned, assigned, with_file, with_flag, with_option, is_flag, is_plain_word, values_of, same_text}
 use Rattle.ssfnet_top.specs.WordWalk.{Walked, behind, walked_on}
 
-file_behind : (os : List (List ℕ × List ℕ)) (fs : List (List ℕ)) (word : List ℕ) (a : Option Assigned)
-    → option_map (behind (record { options = os; files = fs; pending = None })) (option_map (with_file word) a)
-    ≡ option_map (behind (record { options = os; files = fs ++ word ∷ []; pending = None })) a
-file_behind os fs word None = refl
-file_behind os fs word (Some a) =
-    ap (λ (files : List (List ℕ)). let b : Assigned = record { options = os ++ a.options; files = files } in Some b) (sym (append_assoc fs (word ∷ []) a.files))
+file_behind : (os : List (List ℕ × List ℕ)) (gs fs : List (List ℕ)) (word : List ℕ) (a : Option Assigned)
+    → option_map (behind (record { options = os; flags = gs; files = fs; pending = None })) (option_map (with_file word) a)
+    ≡ option_map (behind (record { options = os; flags = gs; files = fs ++ word ∷ []; pending = None })) a
+file_behind os gs fs word None = refl
+file_behind os gs fs word (Some a) =
+    ap (λ (files : List (List ℕ)). let b : Assigned = record { options = os ++ a.options; flags = gs ++ a.flags; files = files } in Some b) (sym (append_assoc fs (word ∷ []) a.files))
 
-option_behind : (os : List (List ℕ × List ℕ)) (fs : List (List ℕ)) (name value : List ℕ) (a : Option Assigned)
-    → option_map (behind (record { options = os; files = fs; pending = Some name })) (option_map (with_option name value) a)
-    ≡ option_map (behind (record { options = os ++ (name, value) ∷ []; files = fs; pending = None })) a
-option_behind os fs name value None = refl
-option_behind os fs name value (Some a) =
-    ap (λ (options : List (List ℕ × List ℕ)). let b : Assigned = record { options = options; files = fs ++ a.files } in Some b) (sym (append_assoc os ((name, value) ∷ []) a.options))
+flag_behind : (os : List (List ℕ × List ℕ)) (gs fs : List (List ℕ)) (word : List ℕ) (a : Option Assigned)
+    → option_map (behind (record { options = os; flags = gs; files = fs; pending = None })) (option_map (with_flag word) a)
+    ≡ option_map (behind (record { options = os; flags = gs ++ word ∷ []; files = fs; pending = None })) a
+flag_behind os gs fs word None = refl
+flag_behind os gs fs word (Some a) =
+    ap (λ (flags : List (List ℕ)). let b : Assigned = record { options = os ++ a.options; flags = flags; files = fs ++ a.files } in Some b) (sym (append_assoc gs (word ∷ []) a.flags))
+
+option_behind : (os : List (List ℕ × List ℕ)) (gs fs : List (List ℕ)) (name value : List ℕ) (a : Option Assigned)
+    → option_map (behind (record { options = os; flags = gs; files = fs; pending = Some name })) (option_map (with_option name value) a)
+    ≡ option_map (behind (record { options = os ++ (name, value) ∷ []; flags = gs; files = fs; pending = None })) a
+option_behind os gs fs name value None = refl
+option_behind os gs fs name value (Some a) =
+    ap (λ (options : List (List ℕ × List ℕ)). let b : Assigned = record { options = options; flags = gs ++ a.flags; files = fs ++ a.files } in Some b) (sym (append_assoc os ((name, value) ∷ []) a.options))
 
 -- a plain word where no value is wanted is a file
-pub took_file : (os : List (List ℕ × List ℕ)) (fs fs' : List (List ℕ)) (p p' : Option (List ℕ)) (word : List ℕ) → p ≡ None → is_plain_word word ≡ true
+pub took_file : (os : List (List ℕ × List ℕ)) (gs fs fs' : List (List ℕ)) (p p' : Option (List ℕ)) (word : List ℕ) → p ≡ None → is_plain_word word ≡ true
     → fs' ≡ fs ++ word ∷ [] → p' ≡ None → (words : List (List ℕ))
-    → walked_on (record { options = os; files = fs; pending = p }) (word ∷ words) ≡ walked_on (record { options = os; files = fs'; pending = p' }) words
-took_file os fs fs' p p' word none plain files after words = rw (none, files, after, plain) (file_behind os fs word (assigned None words))
+    → walked_on (record { options = os; flags = gs; files = fs; pending = p }) (word ∷ words) ≡ walked_on (record { options = os; flags = gs; files = fs'; pending = p' }) words
+took_file os gs fs fs' p p' word none plain files after words = rw (none, files, after, plain) (file_behind os gs fs word (assigned None words))
+
+-- an option without a value where no value is wanted is such an option
+pub took_flag : (os : List (List ℕ × List ℕ)) (gs gs' fs : List (List ℕ)) (p p' : Option (List ℕ)) (word : List ℕ) → p ≡ None → is_plain_word word ≡ false → is_flag word ≡ true
+    → gs' ≡ gs ++ word ∷ [] → p' ≡ None → (words : List (List ℕ))
+    → walked_on (record { options = os; flags = gs; files = fs; pending = p }) (word ∷ words) ≡ walked_on (record { options = os; flags = gs'; files = fs; pending = p' }) words
+took_flag os gs gs' fs p p' word none plain flag flags after words = rw (none, flags, after, plain, flag) (flag_behind os gs fs word (assigned None words))
 
 -- a plain word where a value is wanted is that value
-pub took_value : (os os' : List (List ℕ × List ℕ)) (fs : List (List ℕ)) (p p' : Option (List ℕ)) (name word : List ℕ) → p ≡ Some name → is_plain_word word ≡ true
+pub took_value : (os os' : List (List ℕ × List ℕ)) (gs fs : List (List ℕ)) (p p' : Option (List ℕ)) (name word : List ℕ) → p ≡ Some name → is_plain_word word ≡ true
     → os' ≡ os ++ (name, word) ∷ [] → p' ≡ None → (words : List (List ℕ))
-    → walked_on (record { options = os; files = fs; pending = p }) (word ∷ words) ≡ walked_on (record { options = os'; files = fs; pending = p' }) words
-took_value os os' fs p p' name word some plain options after words = rw (some, options, after, plain) (option_behind os fs name word (assigned None words))
-
--- at the end of the words, where no value is wanted any more
-pub walked_out : (os : List (List ℕ × List ℕ)) (fs : List (List ℕ)) (p : Option (List ℕ)) → p ≡ None
-    → (let a : Assigned = record { options = os; files = fs } in walked_on (record { options = os; files = fs; pending = p }) [] ≡ Some a)
-walked_out os fs p none = rw (none, append-nil, append-nil) refl
-
--- at the end of the words, where a value is still wanted
-pub walked_short : (w : Walked) (name : List ℕ) → w.pending ≡ Some name → walked_on w [] ≡ None
-walked_short w name some = rw some refl
+    → walked_on (record { options = os; flags = gs; files = fs; pending = p }) (word ∷ words) ≡ walked_on (record { options = os'; flags = gs; files = fs; pending = p' }) words
+took_value os os' gs fs p p' name word some plain options after words = rw (some, options, after, plain) (option_behind os gs fs name word (assigned None words))
 
 -- a word that fails makes all the words fail
 pub walked_wrong : (words : List (String Global)) (i : ℕ) (word : String Global) (w : Walked) (all : Option Assigned) → i < length words → word ≡ get_or words i word

@@ -1,8 +1,10 @@
 -- How a call ends, measured by what is due: all of it, a part of it, or nothing.
-use Rattle.std.specs.Prelude.{ℕ, ◌≡◌, ◌⊎◌, List, [], Contains, Option, None, IsSome, Result, Ok, Err}
+use Rattle.std.specs.Prelude.{ℕ, ◌≡◌, ◌⊎◌, true, List, [], Contains, Option, None, IsSome, Result, Ok, Err}
 use Rattle.std.specs.Option.{IsSomeAnd}
 use Rattle.sim_base.specs.Outside.{Files, Rose, Appends, AppendsPrefix}
 use Rattle.dml_tree.specs.declared.reading.TreeFault.TheVariants as tree_fault
+use Rattle.dml_resolve.specs.declared.resolving.PathFault.{PathFault}
+use Rattle.dml_resolve.specs.declared.resolving.PathFault.TheVariants as path_fault
 use Rattle.net_graph.specs.declared.fault.ShapeFault.TheVariants as shape_fault
 use Rattle.ssfnet_top.specs.declared.command.Command.{Command}
 use Rattle.ssfnet_top.specs.declared.command.Command.TheVariants as commands
@@ -10,7 +12,7 @@ use Rattle.ssfnet_top.specs.declared.refusal.Refusal.{Refusal}
 use Rattle.ssfnet_top.specs.declared.refusal.Refusal.TheVariants as refusal
 use Rattle.ssfnet_top.specs.Refusals.{status_of}
 use Rattle.ssfnet_top.specs.Words.{Asked, asked_of_words}
-use Rattle.ssfnet_top.specs.Outcome.{Due, done, refused, refusal_line, IsOutcome}
+use Rattle.ssfnet_top.specs.Outcome.{Due, done, refused, refusal_line, file_of_fault, IsOutcome}
 
 -- What is seen of the outside: how often the library, `out` and `err` failed, and the bytes that `out` and `err` hold
 -- where they are told.
@@ -63,16 +65,29 @@ Ends files words status before after =
 
 -- What a refusal names is of the command, whatever the files hold. Want of memory is no fault of a file or a model.
 abbrev pub HasBudget : Command → ℕ → Type 0
-HasBudget commands.Dml budget = ⊥
+HasBudget (commands.Dml flat) budget = ⊥
 HasBudget (commands.Seq until most) budget = budget ≡ most
+
+abbrev pub Resolves : Command → Type 0
+Resolves (commands.Dml flat) = flat ≡ true
+Resolves (commands.Seq until most) = Unit {0}
+
+abbrev pub HasModel : Command → Type 0
+HasModel (commands.Dml flat) = ⊥
+HasModel (commands.Seq until most) = Unit {0}
+
+-- the file is that of the fault
+abbrev pub IsFaultOf : List (List ℕ) → List ℕ → PathFault → Type 0
+IsFaultOf names file fault = (file ≡ file_of_fault names fault) × ¬ (fault ≡ path_fault.Memory)
 
 abbrev pub Concerns : Option Asked → Refusal → Type 0
 Concerns asked refusal.Memory = Unit {0}
 Concerns asked refusal.Words = asked ≡ None
 Concerns asked (refusal.Read file) = IsFileOf asked file
 Concerns asked (refusal.Dml file fault) = IsFileOf asked file × ¬ (fault ≡ tree_fault.Memory)
-Concerns asked refusal.NotYet = IsSome asked
-Concerns asked (refusal.Shape fault) = IsSome asked × ¬ (fault ≡ shape_fault.Memory)
+Concerns asked (refusal.Path file fault) = IsSomeAnd asked (λ a. Resolves a.command × IsFaultOf a.files file fault)
+Concerns asked refusal.NotYet = IsSomeAnd asked (λ a. HasModel a.command)
+Concerns asked (refusal.Shape fault) = IsSomeAnd asked (λ a. HasModel a.command) × ¬ (fault ≡ shape_fault.Memory)
 Concerns asked refusal.Write = IsSome asked
 Concerns asked (refusal.Budget budget) = IsSomeAnd asked (λ a. HasBudget a.command budget)
 
@@ -82,32 +97,35 @@ IsOfFiles names refusal.Memory = Unit {0}
 IsOfFiles names refusal.Words = ⊥
 IsOfFiles names (refusal.Read file) = Contains names file
 IsOfFiles names (refusal.Dml file fault) = Contains names file × ¬ (fault ≡ tree_fault.Memory)
+IsOfFiles names (refusal.Path file fault) = ⊥
 IsOfFiles names refusal.NotYet = ⊥
 IsOfFiles names (refusal.Shape fault) = ⊥
 IsOfFiles names refusal.Write = ⊥
 IsOfFiles names (refusal.Budget budget) = ⊥
 
--- Within a call, where a plan is made of a tree: what a refusal may be.
-abbrev pub IsOfModel : Refusal → Type 0
-IsOfModel refusal.Memory = Unit {0}
-IsOfModel refusal.Words = ⊥
-IsOfModel (refusal.Read file) = ⊥
-IsOfModel (refusal.Dml file fault) = ⊥
-IsOfModel refusal.NotYet = Unit {0}
-IsOfModel (refusal.Shape fault) = ¬ (fault ≡ shape_fault.Memory)
-IsOfModel refusal.Write = ⊥
-IsOfModel (refusal.Budget budget) = ⊥
+-- Within a call, where a plan is made of the joined tree of files with these names: what a refusal may be.
+abbrev pub IsOfModel : List (List ℕ) → Refusal → Type 0
+IsOfModel names refusal.Memory = Unit {0}
+IsOfModel names refusal.Words = ⊥
+IsOfModel names (refusal.Read file) = ⊥
+IsOfModel names (refusal.Dml file fault) = ⊥
+IsOfModel names (refusal.Path file fault) = IsFaultOf names file fault
+IsOfModel names refusal.NotYet = Unit {0}
+IsOfModel names (refusal.Shape fault) = ¬ (fault ≡ shape_fault.Memory)
+IsOfModel names refusal.Write = ⊥
+IsOfModel names (refusal.Budget budget) = ⊥
 
--- Within a call, where a command does its work with a tree: what a refusal may be.
-abbrev pub IsOfCommand : Command → Refusal → Type 0
-IsOfCommand command refusal.Memory = Unit {0}
-IsOfCommand command refusal.Words = ⊥
-IsOfCommand command (refusal.Read file) = ⊥
-IsOfCommand command (refusal.Dml file fault) = ⊥
-IsOfCommand command refusal.NotYet = Unit {0}
-IsOfCommand command (refusal.Shape fault) = ¬ (fault ≡ shape_fault.Memory)
-IsOfCommand command refusal.Write = Unit {0}
-IsOfCommand command (refusal.Budget budget) = HasBudget command budget
+-- Within a call, where a command does its work with the joined tree of files with these names: what a refusal may be.
+abbrev pub IsOfCommand : Command → List (List ℕ) → Refusal → Type 0
+IsOfCommand command names refusal.Memory = Unit {0}
+IsOfCommand command names refusal.Words = ⊥
+IsOfCommand command names (refusal.Read file) = ⊥
+IsOfCommand command names (refusal.Dml file fault) = ⊥
+IsOfCommand command names (refusal.Path file fault) = Resolves command × IsFaultOf names file fault
+IsOfCommand command names refusal.NotYet = HasModel command
+IsOfCommand command names (refusal.Shape fault) = HasModel command × ¬ (fault ≡ shape_fault.Memory)
+IsOfCommand command names refusal.Write = Unit {0}
+IsOfCommand command names (refusal.Budget budget) = HasBudget command budget
 
 -- Within a call, where the text of an outcome is written to a sink.
 

@@ -1,4 +1,3 @@
-pub mod Absent
 pub mod Ending
 pub mod GivenOption
 pub mod Numbers

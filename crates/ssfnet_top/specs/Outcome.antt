@@ -1,13 +1,17 @@
 -- What a command is to answer, by its words and the told files alone: the status, and the bytes that are due on
 -- `out` and on `err`.
-use Rattle.std.specs.Prelude.{ℕ, ◌≡◌, ◌+◌, ◌<◌, ◌≤◌, ◌⊎◌, if◌then◌else◌, List, [], ◌∷◌, ◌++◌, length, Option, Some, None, IsSome, Result, Ok, Err}
+use Rattle.std.specs.Prelude.{ℕ, ◌≡◌, ◌+◌, ◌<◌, ◌≤◌, ◌⊎◌, if◌then◌else◌, true, false, slice_index_or, List, [], ◌∷◌, ◌++◌, Option, Some, None, IsSome, Result, Ok, Err}
 use Rattle.sim_base.specs.Outside.{Files}
 use Rattle.dml_tree.specs.Attributes.{Attributes, none}
 use Rattle.dml_tree.specs.TreeView.{attributes, joined}
 use Rattle.dml_tree.specs.Reading.{Reads}
 use Rattle.dml_tree.specs.Printing.{printing}
 use Rattle.dml_tree.specs.declared.reading.TreeFault.{TreeFault}
+use Rattle.dml_resolve.specs.declared.resolving.PathFault.{PathFault}
+use Rattle.dml_resolve.specs.declared.resolving.PathFault.TheVariants as path_fault
+use Rattle.dml_resolve.specs.Resolving.{resolved}
 use Rattle.net_graph.specs.declared.fault.ShapeFault.{ShapeFault}
+use Rattle.net_graph.specs.Keys.{has_net}
 use Rattle.net_build.specs.declared.built.Built.{Built}
 use Rattle.net_build.specs.RingModel.{ring_plan_of}
 use Rattle.ring_model.specs.declared.ring.Ring.{Ring}
@@ -26,7 +30,6 @@ use Rattle.ssfnet_top.specs.declared.refusal.Refusal.{Refusal}
 use Rattle.ssfnet_top.specs.declared.refusal.Refusal.TheVariants as refusal
 use Rattle.ssfnet_top.specs.Refusals.{status_of, line_of}
 use Rattle.ssfnet_top.specs.Words.{Asked, asked_of_words}
-use Rattle.ssfnet_top.specs.Absent.{needs_absent_part}
 
 -- what is due: the status, the bytes on `out`, and those on `err`
 pub record Due : Type 0 where
@@ -74,15 +77,43 @@ AreRead files number (name ∷ names) (Err r) =
     IsFileRead files number name (Err r)
     ⊎ ((first : Attributes) × IsFileRead files number name (Ok first) × AreRead files (number + 1) names (Err r))
 
+-- The substitutions.
+
+-- the name of the file of this number
+abbrev pub file_name : List (List ℕ) → ℕ → List ℕ
+file_name names number = slice_index_or names number []
+
+-- the name of the file in which the place of a fault stands
+abbrev pub file_of_fault : List (List ℕ) → PathFault → List ℕ
+file_of_fault names (path_fault.BadPath place) = file_name names place.file
+file_of_fault names (path_fault.UnknownPath place) = file_name names place.file
+file_of_fault names (path_fault.NotAList place) = file_name names place.file
+file_of_fault names (path_fault.TooDeep place) = file_name names place.file
+file_of_fault names path_fault.TooLarge = []
+file_of_fault names path_fault.Memory = []
+
+abbrev pub pathed : List (List ℕ) → Result Attributes PathFault → Result Attributes Refusal
+pathed names (Ok tree) = Ok tree
+pathed names (Err fault) = Err (refusal.Path (file_of_fault names fault) fault)
+
+-- the resolved tree of the joined tree of files with these names
+abbrev pub resolved_of : List (List ℕ) → Attributes → Result Attributes Refusal
+resolved_of names tree = pathed names (resolved tree)
+
 -- The model.
 
 abbrev pub shaped : {A : Type 0} → Result A ShapeFault → Result A Refusal
 shaped (Ok model) = Ok model
 shaped (Err fault) = Err (refusal.Shape fault)
 
--- the model of the tree of so many files
-abbrev pub model_of : ℕ → Attributes → Result (Built Ring RingState RingPayload) Refusal
-model_of files tree = if needs_absent_part files tree then Err refusal.NotYet else shaped (ring_plan_of (attributes tree))
+-- the model that a resolved tree describes; a Net has none yet
+abbrev pub model_in : Result Attributes Refusal → Result (Built Ring RingState RingPayload) Refusal
+model_in (Ok tree) = if has_net (attributes tree) then Err refusal.NotYet else shaped (ring_plan_of (attributes tree))
+model_in (Err r) = Err r
+
+-- the model of the joined tree of files with these names
+abbrev pub model_of : List (List ℕ) → Attributes → Result (Built Ring RingState RingPayload) Refusal
+model_of names tree = model_in (resolved_of names tree)
 
 -- The run. R is the cut: the writes of a round above it do not become pending.
 
@@ -113,13 +144,18 @@ abbrev pub IsModelRun : ℕ → ℕ → Result (Built Ring RingState RingPayload
 IsModelRun until budget (Ok built) due = IsRunDue ring_reaction built.plan built.names until budget due
 IsModelRun until budget (Err r) due = due ≡ refused r []
 
--- what a command has to do with the joined tree of so many files
-abbrev pub IsCommandDue : Command → ℕ → Attributes → Due → Type 0
-IsCommandDue commands.Dml files tree due = due ≡ done (printing 0 tree)
-IsCommandDue (commands.Seq until budget) files tree due = IsModelRun until budget (model_of files tree) due
+abbrev pub IsPrinted : Result Attributes Refusal → Due → Type 0
+IsPrinted (Ok tree) due = due ≡ done (printing 0 tree)
+IsPrinted (Err r) due = due ≡ refused r []
+
+-- what a command has to do with the joined tree of files with these names
+abbrev pub IsCommandDue : Command → List (List ℕ) → Attributes → Due → Type 0
+IsCommandDue (commands.Dml false) names tree due = IsPrinted (Ok tree) due
+IsCommandDue (commands.Dml true) names tree due = IsPrinted (resolved_of names tree) due
+IsCommandDue (commands.Seq until budget) names tree due = IsModelRun until budget (model_of names tree) due
 
 abbrev pub IsTreeDue : Asked → Result Attributes Refusal → Due → Type 0
-IsTreeDue asked (Ok tree) due = IsCommandDue asked.command (length asked.files) tree due
+IsTreeDue asked (Ok tree) due = IsCommandDue asked.command asked.files tree due
 IsTreeDue asked (Err r) due = due ≡ refused r []
 
 abbrev pub IsAskedDue : Files → Option Asked → Due → Type 0

@@ -1,9 +1,12 @@
 -- What the program answers where it does not end well: the status, and the line on `err`.
 use Rattle.std.specs.Prelude.{ℕ, nat_lt, if◌then◌else◌, List, ◌∷◌, ◌++◌, map, codes, decimal}
 use Rattle.ssfnet_top.specs.declared.refusal.Refusal.{Refusal}
-use Rattle.ssfnet_top.specs.declared.refusal.Refusal.TheVariants.{Memory, Words, Read, Dml, NotYet, Shape, Write, Budget}
+use Rattle.ssfnet_top.specs.declared.refusal.Refusal.TheVariants.{Memory, Words, Read, Dml, Path, NotYet, Shape, Write, Budget}
 use Rattle.dml_tree.specs.declared.reading.TreeFault.{TreeFault}
 use Rattle.dml_tree.specs.declared.reading.TreeFault.TheVariants.{BadByte, OpenQuote, KeyWanted, ValueWanted, OpenList, StrayClose, NestedTooDeep, TooLong, Memory as TreeMemory}
+use Rattle.dml_tree.specs.declared.tree.Place.{Place}
+use Rattle.dml_resolve.specs.declared.resolving.PathFault.{PathFault}
+use Rattle.dml_resolve.specs.declared.resolving.PathFault.TheVariants.{BadPath, UnknownPath, NotAList, TooDeep, TooLarge, Memory as PathMemory}
 use Rattle.net_graph.specs.declared.fault.ShapeFault.{ShapeFault}
 use Rattle.net_graph.specs.declared.fault.ShapeFault.TheVariants.{BadNhi, NoModel, BadNumber, Missing, DoubleId, UnknownNhi, AttachedTwice, UnknownSession, TooMany, NoSpace, DelayTooLong, TooManyChannels, TooManyTimelines, Memory as ShapeMemory}
 use Rattle.nhi_address.specs.NhiText.{nhi_text}
@@ -20,6 +23,7 @@ status_of Memory = 1
 status_of Words = 2
 status_of (Read file) = 3
 status_of (Dml file fault) = 4
+status_of (Path file fault) = 5
 status_of NotYet = 6
 status_of (Shape fault) = 6
 status_of Write = 7
@@ -36,6 +40,18 @@ tree_fault_text (StrayClose at) = codes "StrayClose " ++ decimal at
 tree_fault_text (NestedTooDeep at) = codes "NestedTooDeep " ++ decimal at
 tree_fault_text TooLong = codes "TooLong 16777216"
 tree_fault_text TreeMemory = codes "Memory"
+
+-- a file, the name of a fault of a substitution, and its place in the file
+abbrev pub placed_text : List ℕ → List ℕ → Place → List ℕ
+placed_text file name place = printable file ++ name ++ decimal place.at
+
+unfoldable pub path_fault_text : List ℕ → PathFault → List ℕ
+path_fault_text file (BadPath place) = placed_text file (codes " BadPath ") place
+path_fault_text file (UnknownPath place) = placed_text file (codes " UnknownPath ") place
+path_fault_text file (NotAList place) = placed_text file (codes " NotAList ") place
+path_fault_text file (TooDeep place) = placed_text file (codes " TooDeep ") place
+path_fault_text file TooLarge = codes "TooLarge"
+path_fault_text file PathMemory = codes "Memory"
 
 -- the name of a fault of a model, and its detail where it has one
 unfoldable pub shape_fault_text : ShapeFault → List ℕ
@@ -60,6 +76,7 @@ line_of Memory = codes "memory"
 line_of Words = codes "words"
 line_of (Read file) = codes "read " ++ printable file
 line_of (Dml file fault) = codes "dml " ++ printable file ++ 32 ∷ tree_fault_text fault
+line_of (Path file fault) = codes "path " ++ path_fault_text file fault
 line_of NotYet = codes "shape NotYet"
 line_of (Shape fault) = codes "shape " ++ shape_fault_text fault
 line_of Write = codes "write"

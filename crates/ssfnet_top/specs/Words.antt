@@ -1,5 +1,5 @@
 -- The words of a command, after the program's name: the command, and then options and file names in any order.
-use Rattle.std.specs.Prelude.{ℕ, ◌≤◌, Bool, nat_eq, nat_le, ◌&&◌, ◌||◌, not, if◌then◌else◌, cond, List, [], ◌∷◌, length, filter, map, slice_index, codes, Option, Some, None}
+use Rattle.std.specs.Prelude.{ℕ, ◌≤◌, Bool, false, true, nat_eq, nat_le, ◌&&◌, ◌||◌, not, if◌then◌else◌, cond, List, [], ◌∷◌, length, filter, map, slice_index, codes, Option, Some, None}
 use Rattle.std.specs.Option.{option_map, option_and_then}
 use Rattle.std.specs.List.{list_all}
 use Rattle.std.specs.Cmp.Lexicographic.{pointwise}
@@ -18,16 +18,24 @@ begins_with_dash word = nat_eq (slice_index word 0) 45
 abbrev pub is_plain_word : List ℕ → Bool
 is_plain_word word = not (nat_eq (length word) 0) && not (begins_with_dash word)
 
--- the options with their values, and the files, each in the order of the words
+-- an option that takes no value
+abbrev pub is_flag : List ℕ → Bool
+is_flag word = same_text word (codes "--flat")
+
+-- the options with their values, those without one, and the files, each in the order of the words
 pub record Assigned : Type 0 where
   pub options : List (List ℕ × List ℕ)
+  pub flags : List (List ℕ)
   pub files : List (List ℕ)
 
 abbrev pub no_words : Assigned
-no_words = record { options = []; files = [] }
+no_words = record { options = []; flags = []; files = [] }
 
 abbrev pub with_option : List ℕ → List ℕ → Assigned → Assigned
 with_option name value rest = record rest { options = (name, value) ∷ rest.options }
+
+abbrev pub with_flag : List ℕ → Assigned → Assigned
+with_flag flag rest = record rest { flags = flag ∷ rest.flags }
 
 abbrev pub with_file : List ℕ → Assigned → Assigned
 with_file file rest = record rest { files = file ∷ rest.files }
@@ -38,7 +46,8 @@ assigned None [] = Some no_words
 assigned (Some name) [] = None
 assigned None (word ∷ words) =
     cond (is_plain_word word) (option_map (with_file word) (assigned None words))
-    (cond (begins_with_dash word) (assigned (Some word) words) None)
+    (cond (is_flag word) (option_map (with_flag word) (assigned None words))
+    (cond (begins_with_dash word) (assigned (Some word) words) None))
 assigned (Some name) (word ∷ words) = cond (is_plain_word word) (option_map (with_option name word) (assigned None words)) None
 
 -- the values of an option
@@ -69,9 +78,14 @@ DefaultBudget = 1000000000
 abbrev pub MostFiles : ℕ
 MostFiles = 64
 
--- `dml` has no options
-abbrev pub dml_of : List (List ℕ × List ℕ) → Option Command
-dml_of options = if nat_eq (length options) 0 then Some commands.Dml else None
+-- `dml` has perhaps `--flat`, the one option without a value
+abbrev pub flat_of : List (List ℕ) → Option Bool
+flat_of [] = Some false
+flat_of (flag ∷ []) = Some true
+flat_of (flag ∷ other ∷ flags) = None
+
+abbrev pub dml_of : List (List ℕ × List ℕ) → List (List ℕ) → Option Command
+dml_of options flags = if nat_eq (length options) 0 then option_map (λ flat. commands.Dml flat) (flat_of flags) else None
 
 -- `seq` has `--until`, and perhaps `--budget`
 abbrev pub is_seq_option : List ℕ × List ℕ → Bool
@@ -86,10 +100,10 @@ seq_of options =
     else None
 
 -- the command of this name with these options
-abbrev pub command_of : List ℕ → List (List ℕ × List ℕ) → Option Command
-command_of name options =
-    if same_text name (codes "dml") then dml_of options
-    else if same_text name (codes "seq") then seq_of options
+abbrev pub command_of : List ℕ → List (List ℕ × List ℕ) → List (List ℕ) → Option Command
+command_of name options flags =
+    if same_text name (codes "dml") then dml_of options flags
+    else if same_text name (codes "seq") then (if nat_eq (length flags) 0 then seq_of options else None)
     else None
 
 -- what is asked: a command and its files
@@ -101,7 +115,7 @@ pub record Asked : Type 0 where
 abbrev pub asked_of : List ℕ → Assigned → Option Asked
 asked_of name a =
     if nat_le 1 (length a.files) && nat_le (length a.files) MostFiles
-    then option_map (λ c. record { command = c; files = a.files }) (command_of name a.options)
+    then option_map (λ c. record { command = c; files = a.files }) (command_of name a.options a.flags)
     else None
 
 -- what these words ask, where they are words of a command
@@ -111,5 +125,5 @@ asked_of_words (name ∷ words) = option_and_then (asked_of name) (assigned None
 
 -- the numbers that a command is asked lie in their ranges
 abbrev pub IsInRange : Command → Type 0
-IsInRange commands.Dml = Unit {0}
+IsInRange (commands.Dml flat) = Unit {0}
 IsInRange (commands.Seq until budget) = (until ≤ LatestUntil) × (1 ≤ budget) × (budget ≤ LargestBudget)

@@ -3,8 +3,8 @@
 /// What is asked, besides the names of the files.
 #[derive(Clone, Copy)]
 pub enum Command {
-    /// The canonical printing of the files' tree.
-    Dml,
+    /// The canonical printing of the files' tree, or, where it is `flat`, of the resolved tree.
+    Dml { flat: bool },
     /// The trace of the model, run by one event list: of its events up to the time `until`, in
     /// ticks, at most `budget`.
     Seq { until: u64, budget: u64 },

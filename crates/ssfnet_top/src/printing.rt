@@ -1,10 +1,11 @@
-//! The command `dml`: the canonical printing of a tree.
-ghost use Rattle.std.specs.Prelude.{◌≡◌};
-ghost use Rattle.dml_tree.specs.Printing.{printing};
-ghost use Rattle.ssfnet_top.specs.Outcome.{done};
-ghost use Rattle.ssfnet_top.specs.Ending.{Answers};
+//! The command `dml`: the canonical printing of a tree, or of the resolved tree.
+ghost use Rattle.std.specs.Prelude.{◌≡◌, ◌⊎◌, [], map, string_bytes, true, Ok, IfErr};
+ghost use Rattle.sim_base.specs.Outside.{Rose, Appends};
+ghost use Rattle.ssfnet_top.specs.Outcome.{resolved_of, IsPrinted};
+ghost use Rattle.ssfnet_top.specs.Ending.{Answers, IsOfCommand, IsOfModel};
 
-use crate::Refusal;
+use crate::resolving::resolve_files;
+use crate::{Command, Refusal};
 use dml_tree::{Tree, write};
 use sim_base::{Sink, write_all};
 use std::alloc::Global;
@@ -14,7 +15,8 @@ use std::alloc::Global;
 /// # Errors
 /// `Write` only where the sink's `faults` rose; `Memory`.
 pub fn print_tree<K: Sink>(alloc: Global, tree: &Tree, out: &mut K) -> Result<(), Refusal>
-    ensures { Answers (λ due. due ≡ done (printing 0 tree.now)) result (K.faults out.old) (K.faults out.new) (K.held out.old) (K.held out.new) }
+    ensures cause { IfErr result (λ r. (r ≡ Refusal.Memory) ⊎ ((r ≡ Refusal.Write) × Rose (K.faults out.old) (K.faults out.new))) }
+    ensures due { Answers (IsPrinted (Ok tree.now)) result (K.faults out.old) (K.faults out.new) (K.held out.old) (K.held out.new) }
 {
     let mut text = Vec::new(alloc);
     match write(tree, &mut text) {
@@ -24,5 +26,27 @@ pub fn print_tree<K: Sink>(alloc: Global, tree: &Tree, out: &mut K) -> Result<()
     match write_all(out, text.as_slice()) {
         Ok(()) => Ok(()),
         Err(_failed) => Err(Refusal::Write),
+    }
+}
+
+/// Writes the canonical printing of the resolved tree of files with these names.
+///
+/// # Errors
+/// `Path` with the first fault of a substitution, `Write` only where the sink's `faults` rose, and
+/// `Memory`.
+pub fn print_resolved<K: Sink>(
+    alloc: Global,
+    names: &[String],
+    tree: &Tree,
+    out: &mut K,
+) -> Result<(), Refusal>
+    ensures due { Answers (IsPrinted (resolved_of (map string_bytes names.now) tree.now)) result (K.faults out.old) (K.faults out.new) (K.held out.old) (K.held out.new) }
+    ensures cause { IfErr result (λ r. IsOfCommand (Command.Dml true) (map string_bytes names.now) r) }
+    ensures write { IfErr result (λ r. r ≡ Refusal.Write → Rose (K.faults out.old) (K.faults out.new)) }
+    ensures nothing { IfErr result (λ r. IsOfModel (map string_bytes names.now) r → ¬ (r ≡ Refusal.Memory) → Appends [] (K.held out.old) (K.held out.new)) }
+{
+    match resolve_files(alloc, names, tree) {
+        Ok(resolved) => print_tree(alloc, &resolved, out),
+        Err(refusal) => Err(refusal),
     }
 }

@@ -1,9 +1,10 @@
 //! What the program answers where it does not end well: the status, and the line on `err`.
 ghost use Rattle.std.specs.Prelude.{◌≡◌, ◌++◌, ◌∷◌, [], ℕ, length, map, codes, decimal, OnOk};
-ghost use Rattle.ssfnet_top.specs.Refusals.{printable, printable_byte, status_of, line_of, tree_fault_text, shape_fault_text};
+ghost use Rattle.ssfnet_top.specs.Refusals.{printable, printable_byte, status_of, line_of, placed_text, path_fault_text, tree_fault_text, shape_fault_text};
 ghost use Rattle.nhi_address.specs.NhiText.{nhi_text};
 
-use dml_tree::TreeFault;
+use dml_resolve::PathFault;
+use dml_tree::{Place, TreeFault};
 use net_graph::ShapeFault;
 use nhi_address::{Nhi, print_nhi};
 use sim_base::{Memory, Text, push_number};
@@ -19,6 +20,9 @@ pub enum Refusal {
     Read(Text),
     /// The file of this name is no DML.
     Dml { file: Text, fault: TreeFault },
+    /// A substitution has this fault, which stands in the file of this name; a fault without a place
+    /// names none.
+    Path { file: Text, fault: PathFault },
     /// The model needs a part that this program does not have yet.
     NotYet,
     /// The model has this fault.
@@ -50,6 +54,7 @@ impl Refusal {
             Refusal::Words => 2,
             Refusal::Read(_) => 3,
             Refusal::Dml { .. } => 4,
+            Refusal::Path { .. } => 5,
             Refusal::NotYet | Refusal::Shape(_) => 6,
             Refusal::Write => 7,
             Refusal::Budget(_) => 8,
@@ -66,6 +71,7 @@ impl Refusal {
             Refusal::Words => push(out, b"words")?,
             Refusal::Read(file) => push_after(out, b"read ", file)?,
             Refusal::Dml { file, fault } => push_dml(out, file, fault)?,
+            Refusal::Path { file, fault } => push_path(out, file, fault)?,
             Refusal::NotYet => push(out, b"shape NotYet")?,
             Refusal::Shape(fault) => push_shape(out, fault)?,
             Refusal::Write => push(out, b"write")?,
@@ -115,6 +121,30 @@ fn push_nhi(out: &mut Vec<u8>, front: &[u8], nhi: &Nhi) -> Result<(), Memory>
 {
     push(out, front)?;
     print_nhi(nhi, out)
+}
+
+/// Appends a file, the name of a fault and its place in the file.
+fn push_placed(out: &mut Vec<u8>, file: &Text, name: &[u8], place: &Place) -> Result<(), Memory>
+    ensures { OnOk result (out.new.items ≡ out.old.items ++ placed_text file.now name.now place.now) }
+{
+    push_after(out, b"", file)?;
+    push_count(out, name, u64::from(place.at))
+}
+
+/// Appends the line of a substitution with a fault.
+#[tactic(auto, unfolding(crate::specs::Refusals::path_fault_text))]
+fn push_path(out: &mut Vec<u8>, file: &Text, fault: &PathFault) -> Result<(), Memory>
+    ensures { OnOk result (out.new.items ≡ out.old.items ++ (codes "path " ++ path_fault_text file.now fault.now)) }
+{
+    push(out, b"path ")?;
+    match fault {
+        PathFault::BadPath(place) => push_placed(out, file, b" BadPath ", place),
+        PathFault::UnknownPath(place) => push_placed(out, file, b" UnknownPath ", place),
+        PathFault::NotAList(place) => push_placed(out, file, b" NotAList ", place),
+        PathFault::TooDeep(place) => push_placed(out, file, b" TooDeep ", place),
+        PathFault::TooLarge => push(out, b"TooLarge"),
+        PathFault::Memory => push(out, b"Memory"),
+    }
 }
 
 /// Appends the line of a file that is no DML.

@@ -1,5 +1,5 @@
 //! The command `seq`: the plan of a model, its run by one event list, and the trace.
-ghost use Rattle.std.specs.Prelude.{◌≡◌, ◌≤◌, ◌<◌, ◌⊎◌, [], length, All, IfOk, IfErr, OnOk, OnErr};
+ghost use Rattle.std.specs.Prelude.{◌≡◌, ◌≤◌, ◌<◌, ◌⊎◌, [], length, map, string_bytes, All, IfOk, IfErr, OnOk, OnErr};
 ghost use Rattle.ring_model.specs.Reacting.{IsRing, AnyPayload, ring_reaction};
 ghost use Rattle.global_list.specs.Healthy.{IsRunnable};
 ghost use Rattle.ssfnet_top.specs.Words.{LatestUntil, LargestBudget};
@@ -8,60 +8,64 @@ ghost use Rattle.trace_writer.specs.Trace.{entries_text, trace_text};
 ghost use Rattle.ssfnet_top.specs.Outcome.{model_of, IsRunDue, IsModelRun};
 ghost use Rattle.ssfnet_top.specs.Ending.{Answers, IsOfModel, IsOfCommand};
 
-use crate::absent::has_absent_part;
+use crate::resolving::resolve_files;
 use crate::sending::{SendEnd, flush, send_entries};
 use crate::{Command, Refusal};
 use dml_tree::Tree;
 use global_list::{Single, SingleEnd, run_single};
 use net_build::{Built, ring_plan};
-use net_graph::ShapeFault;
+use net_graph::{ShapeFault, is_net};
 use ring_model::Ring;
 use sim_base::Sink;
 use ssf_model::{Entry, Names};
 use std::alloc::Global;
 use trace_writer::end_line;
 
-/// Runs the model of a tree, which was read from so many files, by one event list up to `until`, in
+/// Runs the model of the joined tree of files with these names by one event list up to `until`, in
 /// ticks, and at most `budget` events, and writes the trace.
 ///
 /// # Errors
-/// `NotYet` and `Shape` for a model that has no plan, `Budget` where its run has more events, `Write`
+/// `Path`, `NotYet` and `Shape` for a tree that has no plan, `Budget` where its run has more events, `Write`
 /// only where the sink's `faults` rose, and `Memory`.
 pub fn run_model<K: Sink>(
     alloc: Global,
     until: u64,
     budget: u64,
-    files: usize,
+    names: &[String],
     tree: &Tree,
     out: &mut K,
 ) -> Result<(), Refusal>
     requires until { until ≤ LatestUntil }
     requires least { 1 ≤ budget }
     requires budget { budget ≤ LargestBudget }
-    ensures due { Answers (IsModelRun until budget (model_of files tree.now)) result (K.faults out.old) (K.faults out.new) (K.held out.old) (K.held out.new) }
-    ensures cause { IfErr result (λ r. IsOfCommand (Command.Seq until budget) r) }
+    ensures due { Answers (IsModelRun until budget (model_of (map string_bytes names.now) tree.now)) result (K.faults out.old) (K.faults out.new) (K.held out.old) (K.held out.new) }
+    ensures cause { IfErr result (λ r. IsOfCommand (Command.Seq until budget) (map string_bytes names.now) r) }
     ensures write { IfErr result (λ r. r ≡ Refusal.Write → Rose (K.faults out.old) (K.faults out.new)) }
-    ensures nothing { IfErr result (λ r. IsOfModel r → ¬ (r ≡ Refusal.Memory) → Appends [] (K.held out.old) (K.held out.new)) }
+    ensures nothing { IfErr result (λ r. IsOfModel (map string_bytes names.now) r → ¬ (r ≡ Refusal.Memory) → Appends [] (K.held out.old) (K.held out.new)) }
 {
-    match build_ring(alloc, files, tree) {
+    match build_ring(alloc, names, tree) {
         Ok(built) => simulate(alloc, built, until, budget, out),
         Err(refusal) => Err(refusal),
     }
 }
 
-/// The plan of the ring that is the model of a tree, which was read from so many files.
-fn build_ring(alloc: Global, files: usize, tree: &Tree) -> Result<Built<Ring>, Refusal>
-    ensures model { IfOk result (λ built. model_of files tree.now ≡ Ok built) }
-    ensures cause { IfErr result (λ r. (r ≡ Refusal.Memory) ⊎ (model_of files tree.now ≡ Err r)) }
-    ensures refusal { IfErr result (λ r. IsOfModel r) }
+/// The plan of the ring that is the model of the joined tree of files with these names.
+fn build_ring(alloc: Global, names: &[String], tree: &Tree) -> Result<Built<Ring>, Refusal>
+    ensures model { IfOk result (λ built. model_of (map string_bytes names.now) tree.now ≡ Ok built) }
+    ensures cause { IfErr result (λ r. (r ≡ Refusal.Memory) ⊎ (model_of (map string_bytes names.now) tree.now ≡ Err r)) }
+    ensures refusal { IfErr result (λ r. IsOfModel (map string_bytes names.now) r) }
     ensures runnable { IfOk result (λ built. IsRunnable IsRing AnyPayload built.plan) }
     ensures named { IfOk result (λ built. length built.names.names ≡ length built.plan.entities) }
     ensures before { IfOk result (λ built. built.plan.before ≡ 0) }
 {
-    if has_absent_part(files, tree) {
+    let resolved = match resolve_files(alloc, names, tree) {
+        Ok(resolved) => resolved,
+        Err(refusal) => return Err(refusal),
+    };
+    if is_net(&resolved) {
         return Err(Refusal::NotYet);
     }
-    match ring_plan(alloc, tree) {
+    match ring_plan(alloc, &resolved) {
         Ok(built) => Ok(built),
         Err(ShapeFault::Memory) => Err(Refusal::Memory),
         Err(fault) => Err(Refusal::Shape(fault)),

@@ -24,6 +24,9 @@ const HELD: &str =
 const FIRST: &str =
     "ring [ nodes 3 token 0 token 1 hop [ from 0 to 2 delay 4 priority 7 ] hop [ from 1 to 2 delay 4 ] ]";
 
+const BASE: &str =
+    "base [ nodes 2 token 0 hop [ from 0 to 1 delay 5 ] hop [ from 1 to 0 delay 3 ] ]";
+
 const MORE: &str = "c[d\"\" _find .x]";
 
 const ENDLESS: &str = "ring [ nodes 1 token 0 hop [ from 0 to 0 delay 0 ] ]";
@@ -47,6 +50,10 @@ fn library_of(alloc: Global, model: &str) -> Result<MemoryLibrary, Fail> {
     files.push((Text::of(alloc, b"empty.dml")?, Text::of(alloc, b"")?))?;
     files.push((Text::of(alloc, b"bad.dml")?, Text::of(alloc, b"]")?))?;
     files.push((
+        Text::of(alloc, b"base.dml")?,
+        Text::of(alloc, BASE.as_bytes())?,
+    ))?;
+    files.push((
         Text::of(alloc, b"more.dml")?,
         Text::of(alloc, MORE.as_bytes())?,
     ))?;
@@ -67,7 +74,7 @@ fn check_case(rt: &(impl Abort + AllocGlobal), case: &Case) -> Result<(), Fail> 
 }
 
 /// The worked examples: rings, budgets, words, and models and files with faults.
-const CASES: [Case; 55] = [
+const CASES: [Case; 85] = [
     Case {
         words: "seq --until 10 m.dml",
         model: TWO,
@@ -246,9 +253,9 @@ const CASES: [Case; 55] = [
     Case {
         words: "seq --until 10 m.dml empty.dml",
         model: TWO,
-        status: 6,
-        out: "",
-        err: "shape NotYet\n",
+        status: 0,
+        out: "E 0 0 0 0 0\nE 0 0 1 0 1\nE 5 0 2 0 1\nE 8 0 3 0 0\nend 10 4\n",
+        err: "",
     },
     Case {
         words: "seq --until 10 m.dml",
@@ -260,9 +267,9 @@ const CASES: [Case; 55] = [
     Case {
         words: "seq --until 10 m.dml",
         model: "ring [ _extends .a ]",
-        status: 6,
+        status: 5,
         out: "",
-        err: "shape NotYet\n",
+        err: "path m.dml UnknownPath 7\n",
     },
     Case {
         words: "seq --until 10 m.dml bad.dml",
@@ -302,30 +309,30 @@ const CASES: [Case; 55] = [
     Case {
         words: "seq --until 10 m.dml",
         model: "ring [ nodes 1 _find .x ]",
-        status: 6,
+        status: 5,
         out: "",
-        err: "shape NotYet\n",
+        err: "path m.dml UnknownPath 15\n",
     },
     Case {
         words: "seq --until 10 m.dml",
         model: "ring [ nodes 1 hop [ _find .x ] ]",
-        status: 6,
+        status: 5,
         out: "",
-        err: "shape NotYet\n",
+        err: "path m.dml UnknownPath 21\n",
     },
     Case {
         words: "seq --until 10 m.dml",
         model: "_extends .x ring [ nodes 1 ]",
-        status: 6,
+        status: 5,
         out: "",
-        err: "shape NotYet\n",
+        err: "path m.dml UnknownPath 0\n",
     },
     Case {
         words: "seq --until 10 m.dml",
         model: "x [ schemas [ _extends .x ] ] ring [ nodes 1 ]",
-        status: 6,
+        status: 5,
         out: "",
-        err: "shape NotYet\n",
+        err: "path m.dml TooDeep 14\n",
     },
     Case {
         words: "seq --until 1 m.dml",
@@ -442,6 +449,48 @@ const CASES: [Case; 55] = [
     Case {
         words: "dml --flat m.dml",
         model: TWO,
+        status: 0,
+        out: "ring [\n  nodes 2\n  token 0\n  hop [\n    from 0\n    to 1\n    delay 5\n  ]\n  hop [\n    from 1\n    to 0\n    delay 3\n  ]\n]\n",
+        err: "",
+    },
+    Case {
+        words: "dml m.dml --flat",
+        model: TWO,
+        status: 0,
+        out: "ring [\n  nodes 2\n  token 0\n  hop [\n    from 0\n    to 1\n    delay 5\n  ]\n  hop [\n    from 1\n    to 0\n    delay 3\n  ]\n]\n",
+        err: "",
+    },
+    Case {
+        words: "dml --flat --flat m.dml",
+        model: TWO,
+        status: 2,
+        out: "",
+        err: "words\n",
+    },
+    Case {
+        words: "dml --flat",
+        model: TWO,
+        status: 2,
+        out: "",
+        err: "words\n",
+    },
+    Case {
+        words: "dml --flat=1 m.dml",
+        model: TWO,
+        status: 2,
+        out: "",
+        err: "words\n",
+    },
+    Case {
+        words: "seq --until 10 --flat m.dml",
+        model: TWO,
+        status: 2,
+        out: "",
+        err: "words\n",
+    },
+    Case {
+        words: "seq --until --flat 10 m.dml",
+        model: TWO,
         status: 2,
         out: "",
         err: "words\n",
@@ -452,6 +501,174 @@ const CASES: [Case; 55] = [
         status: 2,
         out: "",
         err: "words\n",
+    },
+    Case {
+        words: "seq --until 10 m.dml base.dml",
+        model: "ring [ _extends .base ]",
+        status: 0,
+        out: "E 0 0 0 0 0\nE 0 0 1 0 1\nE 5 0 2 0 1\nE 8 0 3 0 0\nend 10 4\n",
+        err: "",
+    },
+    Case {
+        words: "seq --until 10 base.dml m.dml",
+        model: "ring [ _extends .base ]",
+        status: 0,
+        out: "E 0 0 0 0 0\nE 0 0 1 0 1\nE 5 0 2 0 1\nE 8 0 3 0 0\nend 10 4\n",
+        err: "",
+    },
+    Case {
+        words: "dml --flat m.dml base.dml",
+        model: "ring [ _extends .base ]",
+        status: 0,
+        out: "ring [\n  nodes 2\n  token 0\n  hop [\n    from 0\n    to 1\n    delay 5\n  ]\n  hop [\n    from 1\n    to 0\n    delay 3\n  ]\n]\nbase [\n  nodes 2\n  token 0\n  hop [\n    from 0\n    to 1\n    delay 5\n  ]\n  hop [\n    from 1\n    to 0\n    delay 3\n  ]\n]\n",
+        err: "",
+    },
+    Case {
+        words: "dml --flat base.dml m.dml",
+        model: "ring [ _extends .base ]",
+        status: 0,
+        out: "base [\n  nodes 2\n  token 0\n  hop [\n    from 0\n    to 1\n    delay 5\n  ]\n  hop [\n    from 1\n    to 0\n    delay 3\n  ]\n]\nring [\n  nodes 2\n  token 0\n  hop [\n    from 0\n    to 1\n    delay 5\n  ]\n  hop [\n    from 1\n    to 0\n    delay 3\n  ]\n]\n",
+        err: "",
+    },
+    Case {
+        words: "dml m.dml base.dml",
+        model: "ring [ _extends .base ]",
+        status: 0,
+        out: "ring [\n  _extends .base\n]\nbase [\n  nodes 2\n  token 0\n  hop [\n    from 0\n    to 1\n    delay 5\n  ]\n  hop [\n    from 1\n    to 0\n    delay 3\n  ]\n]\n",
+        err: "",
+    },
+    Case {
+        words: "seq --until 10 m.dml",
+        model: "ring [ _extends .base ]",
+        status: 5,
+        out: "",
+        err: "path m.dml UnknownPath 7\n",
+    },
+    Case {
+        words: "dml --flat m.dml more.dml",
+        model: TWO,
+        status: 5,
+        out: "",
+        err: "path more.dml UnknownPath 6\n",
+    },
+    Case {
+        words: "dml --flat more.dml m.dml",
+        model: TWO,
+        status: 5,
+        out: "",
+        err: "path more.dml UnknownPath 6\n",
+    },
+    Case {
+        words: "dml --flat m.dml more.dml",
+        model: "a [ _extends .c ]",
+        status: 5,
+        out: "",
+        err: "path more.dml UnknownPath 6\n",
+    },
+    Case {
+        words: "dml --flat more.dml m.dml",
+        model: "x [ _find a ]",
+        status: 5,
+        out: "",
+        err: "path m.dml BadPath 4\n",
+    },
+    Case {
+        words: "seq --until 10 base.dml more.dml m.dml",
+        model: "ring [ _extends .base ]",
+        status: 5,
+        out: "",
+        err: "path more.dml UnknownPath 6\n",
+    },
+    Case {
+        words: "dml --flat m.dml bad.dml",
+        model: "a [ _find .b ]",
+        status: 4,
+        out: "",
+        err: "dml bad.dml StrayClose 0\n",
+    },
+    Case {
+        words: "dml --flat m.dml none.dml",
+        model: "a [ _find .b ]",
+        status: 3,
+        out: "",
+        err: "read none.dml\n",
+    },
+    Case {
+        words: "seq --until 10 m.dml",
+        model: "Net [ _find .x ]",
+        status: 5,
+        out: "",
+        err: "path m.dml UnknownPath 6\n",
+    },
+    Case {
+        words: "seq --until 10 m.dml",
+        model: "n [ ] Net [ _extends .n ]",
+        status: 6,
+        out: "",
+        err: "shape NotYet\n",
+    },
+    Case {
+        words: "dml --flat m.dml",
+        model: "a [ _extends .a ]",
+        status: 5,
+        out: "",
+        err: "path m.dml TooDeep 4\n",
+    },
+    Case {
+        words: "dml --flat m.dml",
+        model: "a [ _find .b ]",
+        status: 5,
+        out: "",
+        err: "path m.dml UnknownPath 4\n",
+    },
+    Case {
+        words: "dml --flat m.dml",
+        model: "a [ _find b ]",
+        status: 5,
+        out: "",
+        err: "path m.dml BadPath 4\n",
+    },
+    Case {
+        words: "dml --flat m.dml",
+        model: "b 1 a [ _extends .b ]",
+        status: 5,
+        out: "",
+        err: "path m.dml NotAList 8\n",
+    },
+    Case {
+        words: "dml m.dml",
+        model: "a [ _extends .a ]",
+        status: 0,
+        out: "a [\n  _extends .a\n]\n",
+        err: "",
+    },
+    Case {
+        words: "dml --flat m.dml",
+        model: "b [ x 1 y 2 ] a [ _extends .b x 9 ]",
+        status: 0,
+        out: "b [\n  x 1\n  y 2\n]\na [\n  y 2\n  x 9\n]\n",
+        err: "",
+    },
+    Case {
+        words: "dml --flat m.dml",
+        model: "d [ p 1 p \"2 3\" ] a [ _find .d.p ]",
+        status: 0,
+        out: "d [\n  p 1\n  p \"2 3\"\n]\na [\n  p 1\n  p \"2 3\"\n]\n",
+        err: "",
+    },
+    Case {
+        words: "dml --flat m.dml",
+        model: "b [ x 1 ] c [ _extends .b y 2 ] a [ _find .c.x ]",
+        status: 0,
+        out: "b [\n  x 1\n]\nc [\n  x 1\n  y 2\n]\na [\n  x 1\n]\n",
+        err: "",
+    },
+    Case {
+        words: "dml --flat m.dml",
+        model: "schemas [ s [ _find .nothing ] _extends x ] a 1",
+        status: 0,
+        out: "schemas [\n  s [\n    _find .nothing\n  ]\n  _extends x\n]\na 1\n",
+        err: "",
     },
 ];
 
@@ -538,4 +755,80 @@ fn unwritten_refusals_end_as_failed_writes(rt: HostRuntime) -> Result<(), Fail> 
     assert_eq!(rt; status, 7);
     assert_eq!(rt; err.faults(), 1);
     Ok(())
+}
+
+/// Runs the command over the text of the file `m.dml`, and looks at what it writes.
+fn check_text(
+    rt: &(impl Abort + AllocGlobal),
+    words: &str,
+    model: &str,
+    status: u8,
+    out: &[u8],
+    err: &[u8],
+) -> Result<(), Fail> {
+    let alloc = rt.alloc();
+    let words = split_words(alloc, words)?;
+    let mut library = library_of(alloc, model)?;
+    let mut wrote = MemorySink::new(alloc, 4096, 8192, Vec::new(alloc))?;
+    let mut told = MemorySink::new(alloc, 64, 4096, Vec::new(alloc))?;
+    let ended = offline(alloc, words.as_slice(), &mut library, &mut wrote, &mut told);
+    assert_eq!(rt; ended, status);
+    assert!(rt; wrote.bytes() == out);
+    assert!(rt; told.bytes() == err);
+    Ok(())
+}
+
+/// The list `a0`, and lists up to `a` with this number, each of which includes the one before it so
+/// often.
+fn chain(alloc: Global, most: u32, often: u32) -> Result<String, Fail> {
+    let mut text = String::from_str(alloc, "a0 [ x 1 ] ")?;
+    for number in 1..=most {
+        let before = number.saturating_sub(1);
+        text.push_str(format!(in alloc; "a{number} [ ")?.as_str())?;
+        for _ in 0..often {
+            text.push_str(format!(in alloc; "_extends .a{before} ")?.as_str())?;
+        }
+        text.push_str("] ")?;
+    }
+    Ok(text)
+}
+
+#[test]
+fn substitutions_stand_in_64_others(rt: HostRuntime) -> Result<(), Fail> {
+    let mut wanted = Vec::new(rt.alloc());
+    for number in 0..=64u32 {
+        let lines = format!(in rt.alloc(); "a{number} [\n  x 1\n]\n")?;
+        wanted.extend_from_slice(lines.as_bytes())?;
+    }
+    let text = chain(rt.alloc(), 64, 1)?;
+    check_text(
+        &rt,
+        "dml --flat m.dml",
+        text.as_str(),
+        0,
+        wanted.as_slice(),
+        b"",
+    )?;
+    let text = chain(rt.alloc(), 65, 1)?;
+    let err = b"path m.dml TooDeep 16\n";
+    check_text(&rt, "dml --flat m.dml", text.as_str(), 5, b"", err)
+}
+
+#[test]
+fn what_doubles_is_too_large(rt: HostRuntime) -> Result<(), Fail> {
+    let text = chain(rt.alloc(), 20, 2)?;
+    let err = b"path TooLarge\n";
+    check_text(&rt, "dml --flat m.dml", text.as_str(), 5, b"", err)?;
+    check_text(&rt, "seq --until 10 m.dml", text.as_str(), 5, b"", err)
+}
+
+#[test]
+fn a_model_has_at_most_64_files(rt: HostRuntime) -> Result<(), Fail> {
+    let mut words = String::from_str(rt.alloc(), "dml")?;
+    for _ in 0..64 {
+        words.push_str(" empty.dml")?;
+    }
+    check_text(&rt, words.as_str(), "", 0, b"", b"")?;
+    words.push_str(" empty.dml")?;
+    check_text(&rt, words.as_str(), "", 2, b"", b"words\n")
 }

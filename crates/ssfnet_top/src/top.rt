@@ -8,7 +8,7 @@ ghost use Rattle.ssfnet_top.specs.Outcome.{IsCommandDue, IsOutcome, refusal_line
 ghost use Rattle.ssfnet_top.specs.Ending.{Ends, Concerns, Answers, IsReadFault, IsOfCommand, IsOfModel, IsTold};
 
 use crate::files::read_files;
-use crate::printing::print_tree;
+use crate::printing::{print_resolved, print_tree};
 use crate::seq::run_model;
 use crate::words::{Request, WordsFault, read_words};
 use crate::{Command, Refusal};
@@ -27,8 +27,8 @@ const WRITE_STATUS: u8 = 7;
 ///
 /// The words are those after the program's name. The statuses are 0 where the whole output was
 /// written, 1 where there was no memory, 2 for words that are not those of a command, 3 for a file
-/// that could not be read, 4 for a file that is no DML, 6 for a model with a fault, 7 where a sink
-/// failed, and 8 where the run has more events than its budget.
+/// that could not be read, 4 for a file that is no DML, 5 for a substitution with a fault, 6 for a
+/// model with a fault, 7 where a sink failed, and 8 where the run has more events than its budget.
 pub fn offline<L: Library, K: Sink, J: Sink>(
     alloc: Global,
     words: &[String],
@@ -76,28 +76,29 @@ fn answer<L: Library, K: Sink>(
     let Request { command, files } = request;
     let names = files.as_slice();
     match read_files(alloc, library, names) {
-        Ok(tree) => act(alloc, command, names.len(), &tree, out),
+        Ok(tree) => act(alloc, command, names, &tree, out),
         Err(refusal) => Err(refusal),
     }
 }
 
-/// Does what a command asks with the joined tree of so many files.
+/// Does what a command asks with the joined tree of files with these names.
 fn act<K: Sink>(
     alloc: Global,
     command: Command,
-    files: usize,
+    names: &[String],
     tree: &Tree,
     out: &mut K,
 ) -> Result<(), Refusal>
     requires { IsInRange command }
-    ensures due { Answers (IsCommandDue command files tree.now) result (K.faults out.old) (K.faults out.new) (K.held out.old) (K.held out.new) }
-    ensures cause { IfErr result (λ r. IsOfCommand command r) }
+    ensures due { Answers (IsCommandDue command (map string_bytes names.now) tree.now) result (K.faults out.old) (K.faults out.new) (K.held out.old) (K.held out.new) }
+    ensures cause { IfErr result (λ r. IsOfCommand command (map string_bytes names.now) r) }
     ensures write { IfErr result (λ r. r ≡ Refusal.Write → Rose (K.faults out.old) (K.faults out.new)) }
-    ensures nothing { IfErr result (λ r. IsOfModel r → ¬ (r ≡ Refusal.Memory) → Appends [] (K.held out.old) (K.held out.new)) }
+    ensures nothing { IfErr result (λ r. IsOfModel (map string_bytes names.now) r → ¬ (r ≡ Refusal.Memory) → Appends [] (K.held out.old) (K.held out.new)) }
 {
     match command {
-        Command::Dml => print_tree(alloc, tree, out),
-        Command::Seq { until, budget } => run_model(alloc, until, budget, files, tree, out),
+        Command::Dml { flat: false } => print_tree(alloc, tree, out),
+        Command::Dml { flat: true } => print_resolved(alloc, names, tree, out),
+        Command::Seq { until, budget } => run_model(alloc, until, budget, names, tree, out),
     }
 }
 

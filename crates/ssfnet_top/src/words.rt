@@ -1,6 +1,7 @@
-//! The words of a command: which are options with values, which are files, and what they ask.
+//! The words of a command: which are options, with and without values, which are files, and what
+//! they ask.
 ghost use Rattle.std.specs.Prelude.{◌≡◌, ◌≤◌, ◌∷◌, vec_len, ℕ, List, Bool, map, string_bytes, IfOk, IfSome, IfNone, OnOk, IsErrOf, None, Some};
-ghost use Rattle.ssfnet_top.specs.Words.{same_text, begins_with_dash, is_plain_word, assigned, is_seq_option, values_of, once, at_most_once, dml_of, seq_of, command_of, asked_of, asked_of_words, IsInRange, MostFiles};
+ghost use Rattle.ssfnet_top.specs.Words.{same_text, begins_with_dash, is_flag, is_plain_word, assigned, is_seq_option, values_of, once, at_most_once, dml_of, seq_of, command_of, asked_of, asked_of_words, IsInRange, MostFiles};
 ghost use Rattle.ssfnet_top.specs.WordWalk.{walked_on};
 ghost use Rattle.ssfnet_top.specs.GivenOption.{texts_of, IsGiven};
 ghost use Rattle.std.specs.List.{list_all};
@@ -52,10 +53,12 @@ impl<T: Drop> From<AllocFailed<T>> for WordsFault {
     }
 }
 
-/// The options with their values and the files so far, and the option whose value stands next.
+/// The options with their values, those without one and the files so far, and the option whose value
+/// stands next.
 #[derive(Drop)]
 struct Walk {
     options: Vec<(String, String)>,
+    flags: Vec<String>,
     files: Vec<String>,
     pending: Option<String>,
 }
@@ -67,7 +70,7 @@ impl Model for Walk {
 
     ghost Value = { Walked };
 
-    ghost view = { λ w. record { options = map (λ o. (string_bytes o.0, string_bytes o.1)) w.options.items; files = map string_bytes w.files.items; pending = option_map string_bytes w.pending } };
+    ghost view = { λ w. record { options = map (λ o. (string_bytes o.0, string_bytes o.1)) w.options.items; flags = map string_bytes w.flags.items; files = map string_bytes w.files.items; pending = option_map string_bytes w.pending } };
 }
 
 /// Whether a word may be a value or a file name: it is not empty and does not begin with `-`.
@@ -90,8 +93,16 @@ fn is_dashed(word: &str) -> bool
     }
 }
 
+/// Whether a word is an option that takes no value.
+fn is_flag(word: &str) -> bool
+    ensures { result ≡ is_flag word.now }
+{
+    word == "--flat"
+}
+
 impl Walk {
-    /// Takes the next word: the value of the option before it, a file, or an option's name.
+    /// Takes the next word: the value of the option before it, a file, an option without a value, or
+    /// an option's name.
     fn take_word(&mut self, alloc: Global, word: &str) -> Result<(), WordsFault>
         ensures ok { OnOk result ((words : List (List ℕ)) → walked_on self.old (word.now ∷ words) ≡ walked_on self.new words) }
         ensures words { IsErrOf result WordsFault.Words → (words : List (List ℕ)) → walked_on self.old (word.now ∷ words) ≡ None }
@@ -110,6 +121,10 @@ impl Walk {
                     self.files.push(owned)?;
                     return Ok(());
                 }
+                if is_flag(word) {
+                    self.flags.push(owned)?;
+                    return Ok(());
+                }
                 if !is_dashed(word) {
                     return Err(WordsFault::Words);
                 }
@@ -120,13 +135,14 @@ impl Walk {
     }
 }
 
-/// Assigns words: options with their values, and files.
+/// Assigns words: options with their values, those without one, and files.
 fn walk_over(alloc: Global, words: &[String]) -> Result<Walk, WordsFault>
-    ensures ok { IfOk result (λ w. assigned None (map string_bytes words.now) ≡ Some (record { options = w.options; files = w.files })) }
+    ensures ok { IfOk result (λ w. assigned None (map string_bytes words.now) ≡ Some (record { options = w.options; flags = w.flags; files = w.files })) }
     ensures words { IsErrOf result WordsFault.Words → assigned None (map string_bytes words.now) ≡ None }
 {
     let mut walk = Walk {
         options: Vec::new(alloc),
+        flags: Vec::new(alloc),
         files: Vec::new(alloc),
         pending: None,
     };
@@ -225,15 +241,30 @@ fn seq_of(options: &[(String, String)]) -> Option<Command>
     Some(Command::Seq { until, budget })
 }
 
+/// What `dml` is asked by its options.
+fn dml_of(options: &[(String, String)], flags: &[String]) -> Option<Command>
+    ensures command { result ≡ dml_of (map texts_of options.now) (map string_bytes flags.now) }
+    ensures range { IfSome result (λ c. IsInRange c) }
+{
+    if !options.is_empty() {
+        return None;
+    }
+    match flags {
+        [] => Some(Command::Dml { flat: false }),
+        [_flat] => Some(Command::Dml { flat: true }),
+        _ => None,
+    }
+}
+
 /// The command of this name with these options.
-fn command_of(name: &str, options: &[(String, String)]) -> Option<Command>
-    ensures command { result ≡ command_of name.now (map texts_of options.now) }
+fn command_of(name: &str, options: &[(String, String)], flags: &[String]) -> Option<Command>
+    ensures command { result ≡ command_of name.now (map texts_of options.now) (map string_bytes flags.now) }
     ensures range { IfSome result (λ c. IsInRange c) }
 {
     if name == "dml" {
-        return options.is_empty().then_some(Command::Dml);
+        return dml_of(options, flags);
     }
-    if name == "seq" {
+    if name == "seq" && flags.is_empty() {
         return seq_of(options);
     }
     None
@@ -248,20 +279,21 @@ pub struct Request {
 
 /// What a command's name and the words assigned behind it ask.
 fn request_of(name: &str, walk: Walk) -> Option<Request>
-    ensures some { IfSome result (λ r. asked_of name.now (record { options = walk.options; files = walk.files }) ≡ Some (record { command = r.command; files = map string_bytes r.files.items })) }
-    ensures none { IfNone result (asked_of name.now (record { options = walk.options; files = walk.files }) ≡ None) }
+    ensures some { IfSome result (λ r. asked_of name.now (record { options = walk.options; flags = walk.flags; files = walk.files }) ≡ Some (record { command = r.command; files = map string_bytes r.files.items })) }
+    ensures none { IfNone result (asked_of name.now (record { options = walk.options; flags = walk.flags; files = walk.files }) ≡ None) }
     ensures range { IfSome result (λ r. IsInRange r.command) }
     ensures files { IfSome result (λ r. vec_len r.files ≤ MostFiles) }
 {
     let Walk {
         options,
+        flags,
         files,
         pending: _,
     } = walk;
     if files.is_empty() || files.len() > MOST_FILES {
         return None;
     }
-    let command = command_of(name, options.as_slice())?;
+    let command = command_of(name, options.as_slice(), flags.as_slice())?;
     Some(Request { command, files })
 }
 

@@ -1,6 +1,10 @@
 use Rattle.dml_tree.specs.TreeView.{attributes}
 use Rattle.ssfnet_top.proofs.Naming.{plan_before}
+use Rattle.ssfnet_top.proofs.Weights.{few_tokens}
 use Rattle.ssfnet_top.proofs.seq.build_ring.Goals as goal
 
-pub returns-in-Ok-clause-before : goal.returns-in-Ok-clause-before
-returns-in-Ok-clause-before c = plan_before (attributes c.args.tree.now) c.in-Ok.built c.in-Ok.ensures.built
+pub ring_plan-requires-clause-few : goal.ring_plan-requires-clause-few
+ring_plan-requires-clause-few c = few_tokens c.in-Ok.resolved c.in-Ok.ensures.small
+
+pub returns-in-Ok-ring_plan-clause-before : goal.returns-in-Ok-ring_plan-clause-before
+returns-in-Ok-ring_plan-clause-before c = plan_before (attributes c.in-Ok.resolved) c.in-Ok-ring_plan.built c.in-Ok-ring_plan.ensures.built

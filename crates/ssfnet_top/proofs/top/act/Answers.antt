@@ -1,4 +1,4 @@
-use Rattle.std.proofs.Common.{sym, subst}
+use Rattle.std.proofs.Common.{sym, subst, map, string_bytes}
 use Rattle.ssfnet_top.specs.declared.command.Command.{Command}
 use Rattle.ssfnet_top.specs.Outcome.{IsCommandDue}
 use Rattle.ssfnet_top.specs.Ending.{Answers}
@@ -6,6 +6,6 @@ use Rattle.ssfnet_top.proofs.top.act.Goals as goal
 
 pub returns-in-Seq-clause-due : goal.returns-in-Seq-clause-due
 returns-in-Seq-clause-due g c =
-    let P : Command → Type 0 = λ command. Answers (IsCommandDue command c.args.files c.args.tree.now) c.run_model.result
+    let P : Command → Type 0 = λ command. Answers (IsCommandDue command (map string_bytes c.args.names.now) c.args.tree.now) c.run_model.result
     (g.K.Sink.faults c.args.out.now) (g.K.Sink.faults c.run_model.new.out) (g.K.Sink.held c.args.out.now) (g.K.Sink.held c.run_model.new.out) in
     subst P (sym c.in-Seq.is) c.run_model.ensures.due
