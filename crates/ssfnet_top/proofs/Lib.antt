@@ -1,4 +1,5 @@
 pub mod Endings
+pub mod FaultPlaces
 pub mod FilesRead
 pub mod Naming
 pub mod OneOutcome

@@ -11,6 +11,7 @@ use Rattle.ssfnet_top.specs.declared.command.Command.TheVariants as commands
 use Rattle.ssfnet_top.specs.declared.refusal.Refusal.{Refusal}
 use Rattle.ssfnet_top.specs.declared.refusal.Refusal.TheVariants as refusal
 use Rattle.ssfnet_top.specs.Refusals.{status_of}
+use Rattle.ssfnet_top.specs.FilePlaces.{IsPlaced}
 use Rattle.ssfnet_top.specs.Words.{Asked, asked_of_words}
 use Rattle.ssfnet_top.specs.Outcome.{Due, done, refused, refusal_line, file_of_fault, IsOutcome}
 
@@ -76,9 +77,9 @@ abbrev pub HasModel : Command → Type 0
 HasModel (commands.Dml flat) = ⊥
 HasModel (commands.Seq until most) = Unit {0}
 
--- the file is that of the fault
+-- the file is that of the fault, and one of these
 abbrev pub IsFaultOf : List (List ℕ) → List ℕ → PathFault → Type 0
-IsFaultOf names file fault = (file ≡ file_of_fault names fault) × ¬ (fault ≡ path_fault.Memory)
+IsFaultOf names file fault = (file ≡ file_of_fault names fault) × IsPlaced names fault × ¬ (fault ≡ path_fault.Memory)
 
 abbrev pub Concerns : Option Asked → Refusal → Type 0
 Concerns asked refusal.Memory = Unit {0}

@@ -1,4 +1,5 @@
 pub mod Ending
+pub mod FilePlaces
 pub mod GivenOption
 pub mod Numbers
 pub mod Outcome

@@ -1,9 +1,10 @@
 //! The files of a command: read, parsed and joined to one tree.
-ghost use Rattle.std.specs.Prelude.{◌≡◌, ◌≤◌, ◌<◌, ◌^◌, ◌⊎◌, ◌∷◌, [], length, map, string_bytes, IfErr, IfSome, IsErrAnd};
+ghost use Rattle.std.specs.Prelude.{◌≡◌, ◌≤◌, ◌<◌, ◌^◌, ◌⊎◌, ◌∷◌, [], length, map, string_bytes, IfOk, IfErr, IfSome, IsErrAnd};
 ghost use Rattle.sim_base.specs.Outside.{Rose};
 ghost use Rattle.ssfnet_top.specs.Refusals.{status_of};
 ghost use Rattle.ssfnet_top.specs.Outcome.{IsFileRead, AreRead};
 ghost use Rattle.ssfnet_top.specs.Ending.{IsOfFiles};
+ghost use Rattle.ssfnet_top.specs.FilePlaces.{AllPlaces, ArePlaced};
 
 use crate::Refusal;
 use dml_tree::{Tree, TreeFault, join, read};
@@ -21,6 +22,7 @@ fn read_tree<L: Library>(
     name: &str,
 ) -> Result<Tree, Refusal>
     ensures file { IsErrAnd result (λ r. (r ≡ Refusal.Memory) ⊎ (status_of r ≡ 3)) ⊎ IfSome (L.files library.old) (λ told. IsFileRead told number name.now result) }
+    ensures placed { IfOk result (λ tree. AllPlaces (λ place. place.file ≡ number) tree) }
     ensures cause { IfErr result (λ r. IsOfFiles (name.now ∷ []) r) }
     ensures read { IfErr result (λ r. status_of r ≡ 3 → Rose (L.faults library.old) (L.faults library.new)) }
     ensures never_falls { L.faults library.old ≤ L.faults library.new }
@@ -63,6 +65,7 @@ pub fn read_files<L: Library>(
 ) -> Result<Tree, Refusal>
     requires { length names.now < 2 ^ 32 }
     ensures files { IsErrAnd result (λ r. (r ≡ Refusal.Memory) ⊎ (status_of r ≡ 3)) ⊎ IfSome (L.files library.old) (λ told. AreRead told 0 (map string_bytes names.now) result) }
+    ensures placed { IfOk result (λ tree. ArePlaced (map string_bytes names.now) tree) }
     ensures cause { IfErr result (λ r. IsOfFiles (map string_bytes names.now) r) }
     ensures read { IfErr result (λ r. status_of r ≡ 3 → Rose (L.faults library.old) (L.faults library.new)) }
     ensures never_falls { L.faults library.old ≤ L.faults library.new }

@@ -3,7 +3,8 @@
 //! The whole meaning of a call is `IsOutcome` of `specs/Outcome.antt`: from words and the files that
 //! the library tells to the status and the bytes that are due; `specs/Ending.antt` says how a call
 //! ends, measured by that. They cite `specs/Words.antt` (what words ask), `specs/Numbers.antt`
-//! (numbers among them) and `specs/Refusals.antt` (statuses and the lines on `err`). `specs/Sending.antt` is of texts that are
+//! (numbers among them), `specs/FilePlaces.antt` (in which files attributes stand) and
+//! `specs/Refusals.antt` (statuses and the lines on `err`). `specs/Sending.antt` is of texts that are
 //! sent in pieces, and `specs/WordWalk.antt` of the walk over the words.
 #![tactic(auto)]
 

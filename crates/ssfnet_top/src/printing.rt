@@ -2,6 +2,7 @@
 ghost use Rattle.std.specs.Prelude.{◌≡◌, ◌⊎◌, [], map, string_bytes, true, Ok, IfErr};
 ghost use Rattle.sim_base.specs.Outside.{Rose, Appends};
 ghost use Rattle.ssfnet_top.specs.Outcome.{resolved_of, IsPrinted};
+ghost use Rattle.ssfnet_top.specs.FilePlaces.{ArePlaced};
 ghost use Rattle.ssfnet_top.specs.Ending.{Answers, IsOfCommand, IsOfModel};
 
 use crate::resolving::resolve_files;
@@ -29,7 +30,8 @@ pub fn print_tree<K: Sink>(alloc: Global, tree: &Tree, out: &mut K) -> Result<()
     }
 }
 
-/// Writes the canonical printing of the resolved tree of files with these names.
+/// Writes the canonical printing of the resolved tree, given the joined tree of files with these
+/// names.
 ///
 /// # Errors
 /// `Path` with the first fault of a substitution, `Write` only where the sink's `faults` rose, and
@@ -40,6 +42,7 @@ pub fn print_resolved<K: Sink>(
     tree: &Tree,
     out: &mut K,
 ) -> Result<(), Refusal>
+    requires { ArePlaced (map string_bytes names.now) tree.now }
     ensures due { Answers (IsPrinted (resolved_of (map string_bytes names.now) tree.now)) result (K.faults out.old) (K.faults out.new) (K.held out.old) (K.held out.new) }
     ensures cause { IfErr result (λ r. IsOfCommand (Command.Dml true) (map string_bytes names.now) r) }
     ensures write { IfErr result (λ r. r ≡ Refusal.Write → Rose (K.faults out.old) (K.faults out.new)) }

@@ -1,7 +1,8 @@
 //! The resolved tree of the files of a command, or the refusal of a substitution.
-ghost use Rattle.std.specs.Prelude.{◌≡◌, ◌≤◌, ◌⊎◌, Ok, Err, map, string_bytes, IfOk, IfErr};
+ghost use Rattle.std.specs.Prelude.{◌≡◌, ◌<◌, ◌≤◌, ◌⊎◌, Ok, Err, length, map, string_bytes, IfOk, IfErr};
 ghost use Rattle.dml_resolve.specs.Resolving.{counted_weight, most_weight};
 ghost use Rattle.ssfnet_top.specs.Outcome.{file_name, file_of_fault, resolved_of};
+ghost use Rattle.ssfnet_top.specs.FilePlaces.{ArePlaced, IsPlaced};
 ghost use Rattle.ssfnet_top.specs.Ending.{IsFaultOf, IsOfModel};
 
 use crate::Refusal;
@@ -15,6 +16,7 @@ use std::alloc::Global;
 /// # Errors
 /// `Path` with the first fault of a substitution, and `Memory`.
 pub fn resolve_files(alloc: Global, names: &[String], tree: &Tree) -> Result<Tree, Refusal>
+    requires { ArePlaced (map string_bytes names.now) tree.now }
     ensures resolved { IfOk result (λ resolved. resolved_of (map string_bytes names.now) tree.now ≡ Ok resolved) }
     ensures cause { IfErr result (λ r. (r ≡ Refusal.Memory) ⊎ (resolved_of (map string_bytes names.now) tree.now ≡ Err r)) }
     ensures refusal { IfErr result (λ r. IsOfModel (map string_bytes names.now) r) }
@@ -29,6 +31,7 @@ pub fn resolve_files(alloc: Global, names: &[String], tree: &Tree) -> Result<Tre
 
 /// The refusal with this fault.
 fn path_refusal(alloc: Global, names: &[String], fault: PathFault) -> Refusal
+    requires { IsPlaced (map string_bytes names.now) fault }
     ensures { (result ≡ Refusal.Memory) ⊎ (result ≡ Refusal.Path (file_of_fault (map string_bytes names.now) fault) fault) }
 {
     match Text::of(alloc, fault_file(names, &fault).as_bytes()) {
@@ -39,6 +42,7 @@ fn path_refusal(alloc: Global, names: &[String], fault: PathFault) -> Refusal
 
 /// The name of the file in which the place of a fault stands.
 fn fault_file<'a>(names: &'a [String], fault: &PathFault) -> &'a str
+    requires { IsPlaced (map string_bytes names.now) fault.now }
     ensures { result.now ≡ file_of_fault (map string_bytes names.now) fault.now }
 {
     match fault {
@@ -52,10 +56,8 @@ fn fault_file<'a>(names: &'a [String], fault: &PathFault) -> &'a str
 
 /// The name of the file of this number.
 fn file_name(names: &[String], number: u32) -> &str
+    requires { number < length names.now }
     ensures { result.now ≡ file_name (map string_bytes names.now) number }
 {
-    match names.get(number as usize) {
-        Some(name) => name.as_str(),
-        None => "",
-    }
+    names[number as usize].as_str()
 }

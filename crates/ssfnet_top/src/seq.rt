@@ -6,6 +6,7 @@ ghost use Rattle.ssfnet_top.specs.Words.{LatestUntil, LargestBudget};
 ghost use Rattle.sim_base.specs.Outside.{Rose, Appends, AppendsPrefix};
 ghost use Rattle.trace_writer.specs.Trace.{entries_text, trace_text};
 ghost use Rattle.ssfnet_top.specs.Outcome.{model_of, IsRunDue, IsModelRun};
+ghost use Rattle.ssfnet_top.specs.FilePlaces.{ArePlaced};
 ghost use Rattle.ssfnet_top.specs.Ending.{Answers, IsOfModel, IsOfCommand};
 
 use crate::resolving::resolve_files;
@@ -38,6 +39,7 @@ pub fn run_model<K: Sink>(
     requires until { until ≤ LatestUntil }
     requires least { 1 ≤ budget }
     requires budget { budget ≤ LargestBudget }
+    requires placed { ArePlaced (map string_bytes names.now) tree.now }
     ensures due { Answers (IsModelRun until budget (model_of (map string_bytes names.now) tree.now)) result (K.faults out.old) (K.faults out.new) (K.held out.old) (K.held out.new) }
     ensures cause { IfErr result (λ r. IsOfCommand (Command.Seq until budget) (map string_bytes names.now) r) }
     ensures write { IfErr result (λ r. r ≡ Refusal.Write → Rose (K.faults out.old) (K.faults out.new)) }
@@ -51,6 +53,7 @@ pub fn run_model<K: Sink>(
 
 /// The plan of the ring that is the model of the joined tree of files with these names.
 fn build_ring(alloc: Global, names: &[String], tree: &Tree) -> Result<Built<Ring>, Refusal>
+    requires { ArePlaced (map string_bytes names.now) tree.now }
     ensures model { IfOk result (λ built. model_of (map string_bytes names.now) tree.now ≡ Ok built) }
     ensures cause { IfErr result (λ r. (r ≡ Refusal.Memory) ⊎ (model_of (map string_bytes names.now) tree.now ≡ Err r)) }
     ensures refusal { IfErr result (λ r. IsOfModel (map string_bytes names.now) r) }

@@ -5,6 +5,7 @@ ghost use Rattle.ssfnet_top.specs.declared.refusal.Refusal.{Refusal as RefusalVa
 ghost use Rattle.ssfnet_top.specs.Words.{asked_of_words, IsInRange, MostFiles};
 ghost use Rattle.ssfnet_top.specs.Refusals.{status_of, line_of};
 ghost use Rattle.ssfnet_top.specs.Outcome.{IsCommandDue, IsOutcome, refusal_line};
+ghost use Rattle.ssfnet_top.specs.FilePlaces.{ArePlaced};
 ghost use Rattle.ssfnet_top.specs.Ending.{Ends, Concerns, Answers, IsReadFault, IsOfCommand, IsOfModel, IsTold};
 
 use crate::files::read_files;
@@ -89,7 +90,8 @@ fn act<K: Sink>(
     tree: &Tree,
     out: &mut K,
 ) -> Result<(), Refusal>
-    requires { IsInRange command }
+    requires range { IsInRange command }
+    requires placed { ArePlaced (map string_bytes names.now) tree.now }
     ensures due { Answers (IsCommandDue command (map string_bytes names.now) tree.now) result (K.faults out.old) (K.faults out.new) (K.held out.old) (K.held out.new) }
     ensures cause { IfErr result (λ r. IsOfCommand command (map string_bytes names.now) r) }
     ensures write { IfErr result (λ r. r ≡ Refusal.Write → Rose (K.faults out.old) (K.faults out.new)) }
