@@ -1,5 +1,5 @@
 -- There is at most one outcome.
-use Rattle.std.proofs.Common.{ℕ, ◌≡◌, ◌<◌, ◌≤◌, ◌+◌, ◌⊎◌, inl, inr, ◌∙◌, sym, ap, refl, true, false, List, [], ◌∷◌, length, Option, Some, None, IsSome, Result, Ok, Err, arith}
+use Rattle.std.proofs.Common.{ℕ, ◌≡◌, ◌<◌, ◌≤◌, ◌+◌, ◌⊎◌, inl, inr, ◌∙◌, sym, ap, refl, true, false, List, [], ◌∷◌, Option, Some, None, IsSome, Result, Ok, Err, arith}
 use Rattle.sim_base.specs.Outside.{Files}
 use Rattle.dml_tree.specs.Attributes.{Attributes}
 use Rattle.dml_tree.specs.TreeView.{joined}

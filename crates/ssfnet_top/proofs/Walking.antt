@@ -1,5 +1,5 @@
 -- One word more of a walk.
-use Rattle.std.proofs.Common.{ℕ, ◌≡◌, ◌∙◌, sym, ap, refl, List, [], ◌∷◌, ◌++◌, append_assoc, append-nil, take-append-drop, drop-cons, ◌<◌, length, get_or, take, drop, suc, filter, string_bytes, String, Option, Some, None, true, false, map}
+use Rattle.std.proofs.Common.{ℕ, ◌≡◌, ◌∙◌, sym, ap, refl, List, [], ◌∷◌, ◌++◌, append_assoc, take-append-drop, drop-cons, ◌<◌, length, get_or, take, drop, suc, filter, string_bytes, String, Option, Some, None, true, false, map}
 use Rattle.std.specs.Option.{option_map}
 use Rattle.std.specs.declared.alloc.Global.{Global}
 use Rattle.std.proofs.lemmas.List.Elements.{filter-append}

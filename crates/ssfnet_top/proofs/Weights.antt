@@ -1,5 +1,5 @@
 -- A tree of few attributes has few tokens.
-use Rattle.std.proofs.Common.{ℕ, ◌≡◌, ◌≤◌, ◌+◌, ap, refl, subst, sym, Bool, true, false, not, nat_eq, List, [], ◌∷◌, length, map, filter, codes, Option, Some, None, IfSome, arith, ◌⊎◌, inl, inr}
+use Rattle.std.proofs.Common.{ℕ, ◌≡◌, ◌≤◌, refl, Bool, true, false, not, nat_eq, List, ◌∷◌, length, filter, codes, Option, Some, None, IfSome, arith, inl, inr}
 use Rattle.std.specs.Cmp.Lexicographic.{pointwise, unequal}
 use Rattle.std.proofs.lemmas.Bool.{cases_Bool}
 use Rattle.std.proofs.lemmas.List.{length-map}
