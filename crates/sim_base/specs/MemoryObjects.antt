@@ -1,5 +1,5 @@
 -- The objects of the outside that stand in memory, as values: what a call answers, and what it leaves.
-use Rattle.std.specs.Prelude.{ℕ, ◌+◌, ◌-◌, ◌^◌, min, Bool, nat_eq, nat_le, not, ◌&&◌, ◌||◌, if◌then◌else◌, List, ◌++◌, length, take, drop, Option, None}
+use Rattle.std.specs.Prelude.{ℕ, nat_lt, ◌+◌, ◌-◌, ◌^◌, min, Bool, nat_eq, nat_le, not, ◌&&◌, ◌||◌, if◌then◌else◌, List, ◌++◌, length, take, drop, Option, None}
 use Rattle.std.specs.List.{list_any}
 use Rattle.std.specs.Option.{is_none, option_map, option_map_or}
 use Rattle.sim_base.specs.Outside.{first_file}
@@ -65,3 +65,12 @@ abbrev pub after_read : LibraryState → ℕ → LibraryState
 after_read library room =
     if call_fails library then after_failure library
     else record library { calls = risen library.calls; ahead = option_map (λ bytes. drop (min (length bytes) room) bytes) library.ahead }
+
+-- a gate: how many questions it still answers with true, and how often it answered false
+pub record GateState : Type 0 where
+  pub left : ℕ
+  pub stops : ℕ
+
+-- what a question leaves
+abbrev pub after_question : GateState → GateState
+after_question gate = if nat_lt 0 gate.left then record gate { left = gate.left - 1 } else record gate { stops = risen gate.stops }

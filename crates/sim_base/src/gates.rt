@@ -1,7 +1,10 @@
 //! Gates for tests: one that is always open, and one that shuts after some questions.
-ghost use Rattle.std.specs.Prelude.{◌≡◌, true};
+ghost use Rattle.std.specs.Prelude.{◌≡◌, ◌≤◌, ◌⊎◌, nat_lt, true, IsTrue};
+ghost use Rattle.sim_base.specs.MemoryObjects.{GateState, after_question};
+ghost use Rattle.sim_base.specs.Outside.{Rose};
 
 use crate::Gate;
+use std::marker::Model;
 
 /// A gate that always answers true.
 #[derive(Drop)]
@@ -35,9 +38,19 @@ pub struct StopGate {
     stops: u64,
 }
 
+impl Model for StopGate {
+    ghost use Rattle.sim_base.specs.MemoryObjects.{GateState};
+
+    ghost Value = { GateState };
+
+    ghost view = { λ g. record { left = g.left; stops = g.stops } };
+}
+
 impl StopGate {
     /// A gate that answers true `after` times.
-    pub fn new(after: u64) -> StopGate {
+    pub fn new(after: u64) -> StopGate
+        ensures { result ≡ (record { left = after; stops = 0 }) }
+    {
         StopGate {
             left: after,
             stops: 0,
@@ -52,7 +65,12 @@ impl Gate for StopGate {
         self.stops
     }
 
-    fn may_go(&mut self, _timeline: u32, _bound: u64) -> bool {
+    fn may_go(&mut self, _timeline: u32, _bound: u64) -> bool
+        ensures never_falls { self.old.stops ≤ self.new.stops }
+        ensures cause { IsTrue result ⊎ Rose self.old.stops self.new.stops }
+        ensures answer { result ≡ nat_lt 0 self.old.left }
+        ensures state { self.new ≡ after_question self.old }
+    {
         if self.left > 0 {
             self.left -= 1;
             true
