@@ -1,5 +1,5 @@
 -- Equality of trees, attribute by attribute.
-use Rattle.std.proofs.Common.{◌≡◌, ℕ, suc, ◌<◌, ◌≤◌, Bool, true, false, not, ◌&&◌, List, length, get_or, drop, refl, ap, sym, ◌∙◌, drop-cons, drop_of_length-le}
+use Rattle.std.proofs.Common.{◌≡◌, ℕ, suc, ◌<◌, ◌≤◌, Bool, true, false, not, ◌&&◌, List, [], ◌∷◌, length, get_or, drop, refl, ap, sym, ◌∙◌, drop-cons, drop_of_length-le}
 use Rattle.dml_tree.specs.declared.tree.Place.{Place}
 use Rattle.dml_tree.specs.declared.tree.Attribute.{Attribute}
 use Rattle.dml_tree.specs.declared.tree.Value.{Value}
@@ -8,12 +8,7 @@ use Rattle.dml_tree.specs.Attributes.{Attributes, none}
 use Rattle.dml_tree.specs.TreeView.{tree_of, with_value, attributes}
 use Rattle.dml_tree.proofs.TreeLists.{tree_of-attributes}
 use Rattle.dml_tree.specs.SameTree.{same_tree, same_text}
-
-abbrev pub same_value : Value → Value → Bool
-same_value (value.Plain text) (value.Plain other) = same_text text other
-same_value (value.Plain text) (value.List other) = false
-same_value (value.List inner) (value.Plain other) = false
-same_value (value.List inner) (value.List other) = same_tree inner other
+use Rattle.dml_tree.specs.SameValue.{same_value}
 
 no_and : (a b : Bool) → false ≡ (a && false && b)
 no_and true b = refl
@@ -81,3 +76,26 @@ not_true false e = refl
 pub not_false : (b : Bool) → not b ≡ false → b ≡ true
 not_false true e = refl
 not_false false e = sym e
+
+no_rest_and : (a b : Bool) → (a && b && false) ≡ false
+no_rest_and true true = refl
+no_rest_and true false = refl
+no_rest_and false b = refl
+
+none_with : (key : List ℕ) (place : Place) (v : Value) (r : Attributes) → same_tree none (with_value key place v r) ≡ false
+none_with key place (value.Plain text) r = refl
+none_with key place (value.List inner) r = refl
+
+with_none : (key : List ℕ) (place : Place) (v : Value) (r : Attributes) → same_tree (with_value key place v r) none ≡ false
+with_none key place (value.Plain text) r = refl
+with_none key place (value.List inner) r = refl
+
+-- lists of other lengths differ
+pub other_length : (xs ys : List Attribute) → ¬ (length xs ≡ length ys) → same_tree (tree_of xs) (tree_of ys) ≡ false
+other_length [] [] other = absurd (other refl)
+other_length [] (y ∷ ys) other = none_with y.key y.place y.value (tree_of ys)
+other_length (x ∷ xs) [] other = with_none x.key x.place x.value (tree_of xs)
+other_length (x ∷ xs) (y ∷ ys) other =
+    same_with x.key y.key x.place y.place x.value y.value (tree_of xs) (tree_of ys)
+    ∙ ap (λ b. same_text x.key y.key && same_value x.value y.value && b) (other_length xs ys (λ e. other (ap suc e)))
+    ∙ no_rest_and (same_text x.key y.key) (same_value x.value y.value)

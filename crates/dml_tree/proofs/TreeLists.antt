@@ -50,3 +50,23 @@ inner_lighter t xs is i d inner lt e =
     let same : tree_of xs ≡ t = ap tree_of is ∙ tree_of-attributes t in
     let m : weight (tree_of xs) ≡ weight t = ap weight same in
     omega (arith, lighter_at xs i d inner lt e)
+
+-- what the value of an attribute weighs: nothing, or as much as its list
+abbrev pub value_weight : Value → ℕ
+value_weight (value.Plain text) = 0
+value_weight (value.List inner) = weight inner
+
+value_lighter_than_with : (key : List ℕ) (place : Place) (v : Value) (rest : Attributes) → value_weight v < weight (with_value key place v rest)
+value_lighter_than_with key place (value.Plain text) rest = omega arith
+value_lighter_than_with key place (value.List inner) rest = omega arith
+
+value_lighter_at : (xs : List Attribute) (i : ℕ) (d : Attribute) → i < length xs → value_weight (get_or xs i d).value < weight (tree_of xs)
+value_lighter_at [] i d lt = absurd (omega arith)
+value_lighter_at (x ∷ xs) zero d lt = value_lighter_than_with x.key x.place x.value (tree_of xs)
+value_lighter_at (x ∷ xs) (suc i) d lt = omega (arith, value_lighter_at xs i d (omega arith), rest_no_heavier x.key x.place x.value (tree_of xs))
+
+-- a value weighs less than the tree that holds it
+pub value_lighter : (t : Attributes) (xs : List Attribute) → xs ≡ attributes t → (i : ℕ) (d : Attribute) → i < length xs → value_weight (get_or xs i d).value < weight t
+value_lighter t xs is i d lt =
+    let m : weight (tree_of xs) ≡ weight t = ap weight (ap tree_of is ∙ tree_of-attributes t) in
+    omega (arith, value_lighter_at xs i d lt)

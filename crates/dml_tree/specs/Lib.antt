@@ -6,5 +6,6 @@ pub mod Printing
 pub mod Reading
 pub mod SameTree
 pub mod SameTreeLaws
+pub mod SameValue
 pub mod TreeFalls
 pub mod TreeView
