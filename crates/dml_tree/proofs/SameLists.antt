@@ -24,31 +24,12 @@ module _ (xs ys : List Attribute) (i : ℕ) (d : Attribute) (lx : i < length xs)
   first_left : tree_of (drop i xs) ≡ with_value (get_or xs i d).key (get_or xs i d).place (get_or xs i d).value (tree_of (drop (suc i) xs))
   first_left = ap tree_of (drop-cons xs i d lx)
 
-  no_tree : (key : List ℕ) (place : Place) (v : Value) (r : Attributes) → same_tree (with_value key place v r) none ≡ false
-  no_tree key place (value.Plain text) r = refl
-  no_tree key place (value.List inner) r = refl
-
-  -- the second list is shorter
-  pub shorter : length ys ≤ i → same_tree (tree_of (drop i xs)) (tree_of (drop i ys)) ≡ false
-  shorter le = ap (λ t. same_tree t (tree_of (drop i ys))) first_left ∙ ap (λ l. same_tree (with_value (get_or xs i d).key (get_or xs i d).place (get_or xs i d).value (tree_of (drop (suc i) xs))) (tree_of l)) (drop_of_length-le ys le) ∙ no_tree (get_or xs i d).key (get_or xs i d).place (get_or xs i d).value (tree_of (drop (suc i) xs))
-
   -- both have one more attribute
   pub one_each : (e : Attribute) → i < length ys → same_tree (tree_of (drop i xs)) (tree_of (drop i ys)) ≡ (same_text (get_or xs i d).key (get_or ys i e).key && same_value (get_or xs i d).value (get_or ys i e).value && same_tree (tree_of (drop (suc i) xs)) (tree_of (drop (suc i) ys)))
   one_each e ly =
       ap (λ t. same_tree t (tree_of (drop i ys))) first_left
       ∙ ap (λ l. same_tree (with_value (get_or xs i d).key (get_or xs i d).place (get_or xs i d).value (tree_of (drop (suc i) xs))) (tree_of l)) (drop-cons ys i e ly)
       ∙ same_with (get_or xs i d).key (get_or ys i e).key (get_or xs i d).place (get_or ys i e).place (get_or xs i d).value (get_or ys i e).value (tree_of (drop (suc i) xs)) (tree_of (drop (suc i) ys))
-
--- the first list is at its end, and the second is not
-pub longer : (xs ys : List Attribute) (i : ℕ) (e : Attribute) → length xs ≤ i → i < length ys → same_tree (tree_of (drop i xs)) (tree_of (drop i ys)) ≡ false
-longer xs ys i e le lt =
-    ap (λ l. same_tree (tree_of l) (tree_of (drop i ys))) (drop_of_length-le xs le)
-    ∙ ap (λ l. same_tree none (tree_of l)) (drop-cons ys i e lt)
-    ∙ none_first (get_or ys i e).key (get_or ys i e).place (get_or ys i e).value (tree_of (drop (suc i) ys))
-  where
-    none_first : (key : List ℕ) (place : Place) (v : Value) (r : Attributes) → same_tree none (with_value key place v r) ≡ false
-    none_first key place (value.Plain text) r = refl
-    none_first key place (value.List inner) r = refl
 
 -- both are at their ends
 pub both_end : (xs ys : List Attribute) (i : ℕ) → length xs ≤ i → length ys ≤ i → same_tree (tree_of (drop i xs)) (tree_of (drop i ys)) ≡ true
