@@ -14,7 +14,8 @@ use sim_base::{Memory, Text};
 /// bytes alone, else it stands between quotes.
 ///
 /// What is appended reads back as an equal tree, where some bytes spell an equal tree and what is appended has at
-/// most 16,777,216 bytes. Places do not matter, so this holds of joined trees and of trees made by hand too.
+/// most 16,777,216 bytes. Places do not matter: the
+/// tree may be joined or made by hand.
 ///
 /// # Errors
 /// Without memory nothing is appended.
