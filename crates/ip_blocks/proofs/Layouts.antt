@@ -8,13 +8,11 @@ use Rattle.ip_blocks.specs.declared.layout.LinkSize.{LinkSize}
 use Rattle.ip_blocks.specs.declared.layout.NetParent.{NetParent}
 use Rattle.ip_blocks.specs.Blocks.{Part, size_of, lies_in, sum_in, link_part, net_part, parts_from, parts_of, exponent_of, places, parent_of, IsLayout}
 use Rattle.ip_blocks.proofs.Sums.{weight, sum_in_is}
+use Rattle.ip_blocks.specs.Apart.{no_link}
 use Rattle.ip_blocks.specs.Tree.{IsTree, at, no_part}
 
 abbrev pub no_net : NetParent
 no_net = record { parent = None; order = 0 }
-
-abbrev pub no_link : LinkSize
-no_link = record { net = 0; order = 0; attachments = 0 }
 
 pub length-parts_from : (links : List LinkSize) (n : ℕ) (nets : List NetParent) → length (parts_from links n nets) ≡ length nets + length links
 unfolding parts_from

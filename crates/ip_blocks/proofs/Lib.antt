@@ -5,6 +5,7 @@ pub mod Bases
 pub mod Nested
 pub mod Layouts
 pub mod Placing
+pub mod Nesting
 pub mod Turns
 pub mod Listing
 pub mod Outcomes

@@ -1,16 +1,16 @@
 -- The laws of the blocks that the parts of a tree have.
 use Rattle.std.proofs.Common.{◌≡◌, ◌≢◌, ℕ, ◌+◌, ◌-◌, ◌^◌, ◌<◌, ◌≤◌, List, ◌++◌, length, get_or, map, take, drop, Some, inl, inr, sym, ap, ◌∙◌, arith}
 use Rattle.std.specs.Prelude.{All, AllPairs}
-use Rattle.std.proofs.lemmas.List.{length-map, map-append, take-append-drop, get_or-map, get_or-drop, length-drop}
+use Rattle.std.proofs.lemmas.List.{length-map, map-append, take-append-drop, get_or-map, get_or-drop, length-drop, get_or-take, length-take}
 use Rattle.std.proofs.lemmas.Bool.{cases_order}
 use Rattle.ip_blocks.specs.declared.block.Block.{Block}
 use Rattle.ip_blocks.specs.declared.layout.LinkSize.{LinkSize}
 use Rattle.ip_blocks.specs.Blocks.{Part, size_of, block_of, block_end, BlockLists, exponent_of, top_base}
-use Rattle.ip_blocks.specs.Apart.{IsApart, IsNestedOrApart, attachments_of, HasRoom, AddressesDiffer, IsPlaced}
+use Rattle.ip_blocks.specs.Apart.{IsWithin, IsApart, IsNestedOrApart, attachments_of, HasRoom, AddressesDiffer, IsPlaced}
 use Rattle.ip_blocks.proofs.Exponents.{exponent-room, pow_up}
 use Rattle.ip_blocks.specs.Tree.{IsTree, at, no_part}
 use Rattle.ip_blocks.proofs.Bases.{base_of, base_of-top, parent_at, cases_net}
-use Rattle.ip_blocks.proofs.Nested.{Above, Related, above_le, child_above, related, top_above, within, apart, exponent_most}
+use Rattle.ip_blocks.proofs.Nested.{Above, here, up, Related, above_le, child_above, related, top_above, within, apart, exponent_most}
 
 abbrev pub lists_of : List Part → ℕ → BlockLists
 lists_of parts count = record { nets = map (block_of parts) (take count parts); links = map (block_of parts) (drop count parts) }
@@ -74,7 +74,17 @@ module _ (parts : List Part) (count : ℕ) (t : IsTree parts count) (most : (at 
     ]
   ]
 
-  link_at : (k : ℕ) (d : Block) → count + k < length parts → get_or (map (block_of parts) (drop count parts)) k d ≡ block_of parts (at parts (count + k))
+  pub net_at : (n : ℕ) (d : Block) → n < count → get_or (map (block_of parts) (take count parts)) n d ≡ block_of parts (at parts n)
+  net_at n d lt = get_or-map (block_of parts) (take count parts) n no_part d (omega (arith, length-take count parts, t.nets_first)) ∙ ap (block_of parts) (get_or-take count parts n no_part lt)
+
+  -- a part lies within its Net
+  pub in_net : (x n : ℕ) → x < length parts → (at parts x).net ≡ Some n → IsWithin (block_of parts (at parts x)) (block_of parts (at parts n))
+  in_net x n lt e =
+      let there : n < length parts = omega (arith, (parent_at parts count t x n lt e).1, t.nets_first) in
+      let inside = within parts count t {u = n} {x = x} lt (up e here) in
+      (omega arith, omega (arith, end_at x lt, end_at n there))
+
+  pub link_at : (k : ℕ) (d : Block) → count + k < length parts → get_or (map (block_of parts) (drop count parts)) k d ≡ block_of parts (at parts (count + k))
   link_at k d lt = get_or-map (block_of parts) (drop count parts) k no_part d (omega (arith, length-drop count parts)) ∙ ap (block_of parts) (get_or-drop count parts k no_part)
 
   link_pairs : AllPairs IsApart (map (block_of parts) (drop count parts))

@@ -1,6 +1,6 @@
 -- The address blocks of Nets and links: sizes by recursion on the Nets, bases as sums over siblings.
 -- Nets are numbered from 0, the top Net; a Net's nested Nets have larger numbers than it has.
-use Rattle.std.specs.Prelude.{ℕ, zero, suc, ◌≡◌, ◌≢◌, ◌+◌, ◌-◌, ◌^◌, ◌<◌, nat_lt, nat_le, ◌==◌, Bool, false, ◌&&◌, ◌||◌, if◌then◌else◌, List, [], ◌∷◌, ◌++◌, length, map, take, drop, sum_by, filter, slice_index_or, All, AllPairs, EachIndex, Option, Some, None, MatchOption}
+use Rattle.std.specs.Prelude.{ℕ, zero, suc, ◌≡◌, ◌≢◌, ◌+◌, ◌-◌, ◌^◌, ◌<◌, ◌≤◌, nat_lt, nat_le, ◌==◌, Bool, false, ◌&&◌, ◌||◌, if◌then◌else◌, List, [], ◌∷◌, ◌++◌, length, map, take, drop, sum_by, filter, slice_index_or, All, AllPairs, EachIndex, Option, Some, None, MatchOption}
 use Rattle.std.specs.Option.{option_map_or}
 use Rattle.ip_blocks.specs.declared.block.Block.{Block}
 use Rattle.ip_blocks.specs.declared.layout.LinkSize.{LinkSize}
@@ -9,6 +9,10 @@ use Rattle.ip_blocks.specs.declared.layout.NetParent.{NetParent}
 -- the first address behind a block
 abbrev pub block_end : Block → ℕ
 block_end block = block.base + 2 ^ (32 - block.bits)
+
+-- the address lies in the block
+abbrev pub Holds : Block → ℕ → Type 0
+Holds block address = (block.base ≤ address) × (address < block_end block)
 
 -- the least exponent of two that gives at least n addresses
 unfoldable pub exponent_of : ℕ → ℕ

@@ -1,9 +1,9 @@
 //! A block of consecutive IPv4 addresses.
-ghost use Rattle.std.specs.Prelude.{◌≡◌, ℕ, ◌<◌, ◌≤◌, IsTrue, ◌↔◌};
-ghost use Rattle.ip_blocks.specs.Blocks.{block_end};
+ghost use Rattle.std.specs.Prelude.{IsTrue, ◌↔◌};
+ghost use Rattle.ip_blocks.specs.Blocks.{Holds};
 
-/// The 2^(32 - bits) addresses from `base` on, as CIDR writes `base/bits`. A `bits` above 32 counts
-/// as 32.
+/// The 2^(32 - bits) addresses from `base` on, as CIDR writes `base/bits`. `bits` is at most 32;
+/// [`holds`] takes more as 32.
 #[derive(Clone, Copy, Debug, PartialEq, Eq)]
 pub struct Block {
     pub base: u32,
@@ -12,7 +12,7 @@ pub struct Block {
 
 /// Whether the address lies in the block.
 pub fn holds(block: Block, address: u32) -> bool
-    ensures { IsTrue result ↔ ((block.base ≤ address) × (address < block_end block)) }
+    ensures { IsTrue result ↔ Holds block address }
 {
     let size = 1u64 << (32 - block.bits.min(32));
     block.base <= address && u64::from(address - block.base) < size

@@ -7,10 +7,11 @@
 //! first, and equal ones by their order. The top Net begins at 10.0.0.0 and has at most 2^24 addresses.
 //!
 //! Contracts cite `specs/Blocks.antt` (sizes, bases and the answer of `assign`) and `specs/Apart.antt`
-//! (what holds between the blocks and addresses of that answer).
+//! (what holds between the blocks and addresses of that answer). [`laws`] has that sizes are least.
 #![tactic(auto)]
 
 mod block;
+pub mod laws;
 mod layout;
 mod members;
 mod placed;

@@ -7,7 +7,7 @@ ghost use Rattle.ip_blocks.specs.Sums.{AreExponents, AllFit};
 ghost use Rattle.ip_blocks.specs.Members.{part_of, AreNumbered, AreInTurn, AreOffsets};
 
 use crate::layout::{LinkSize, NetParent};
-use crate::sizes::exponent;
+use crate::sizes::link_exponent;
 use sim_base::Memory;
 use std::alloc::Global;
 use std::cmp::Reverse;
@@ -47,7 +47,7 @@ pub(crate) fn members(
         let number = members.len();
         members.push(Member {
             net: Some(link.net),
-            exponent: exponent(u64::from(link.attachments) + 2),
+            exponent: link_exponent(*link),
             order: link.order,
             number,
         })?;

@@ -2,7 +2,7 @@
 ghost use Rattle.std.specs.Prelude.{◌≡◌, ℕ, ◌+◌, ◌-◌, ◌^◌, ◌<◌, ◌≤◌, length, map, slice_get, slice_index_or, Some, IfOk, IfErr, OnOk};
 ghost use Rattle.std.specs.Option.{ForSome, option_map_or};
 ghost use Rattle.ip_blocks.specs.Blocks.{IsLayout, blocks_of, block_of, top_base, top_size};
-ghost use Rattle.ip_blocks.specs.Apart.{IsPlaced, link_block, address_of, no_block};
+ghost use Rattle.ip_blocks.specs.Apart.{IsPlaced, AreNested, link_block, address_of, no_block};
 ghost use Rattle.ip_blocks.specs.Tree.{IsTree, at};
 ghost use Rattle.ip_blocks.specs.Members.{part_of, AreNumbered, AreOffsets};
 
@@ -52,8 +52,8 @@ impl Blocks {
         self.blocks[self.nets + i as usize]
     }
 
-    /// The address of the attachment at a place of a link: as many behind the block's base as the
-    /// place, counted from 1.
+    /// The address of the attachment at a place of a link: base + 1 + place, with places counted
+    /// from 0.
     pub fn address(&self, link: u32, place: u32) -> u32
         requires link { link < length self.now.links }
         requires place { place + 1 < 2 ^ (32 - (link_block self.now link).bits) }
@@ -99,6 +99,10 @@ fn block_list(
 
 /// A block for each Net and each link.
 ///
+/// Net 0 alone has no parent, and each other Net's parent has a smaller number than it has; each
+/// link's `net` is the number of a Net that is there; and the orders of the links and nested Nets of
+/// one Net differ.
+///
 /// # Errors
 /// `NoSpace` exactly where the top Net needs more than 2^24 addresses, and `Memory`.
 pub fn assign(alloc: Global, links: &[LinkSize], nets: &[NetParent]) -> Result<Blocks, BlockFault>
@@ -107,6 +111,7 @@ pub fn assign(alloc: Global, links: &[LinkSize], nets: &[NetParent]) -> Result<B
     ensures nets { IfOk result (λ blocks. length blocks.nets ≡ length nets.now) }
     ensures links { IfOk result (λ blocks. length blocks.links ≡ length links.now) }
     ensures laws { IfOk result (λ blocks. IsPlaced links.now blocks) }
+    ensures nested { IfOk result (λ blocks. AreNested links.now nets.now blocks) }
     ensures fits { OnOk result (top_size links.now nets.now ≤ 2 ^ 24) }
     ensures no_space { IfErr result (λ fault. fault ≡ BlockFault.NoSpace → 2 ^ 24 < top_size links.now nets.now) }
 {

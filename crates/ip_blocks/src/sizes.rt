@@ -21,6 +21,13 @@ pub(crate) fn exponent(addresses: u64) -> u8
     exponent
 }
 
+/// The exponent of a link's size: it has an address for each attachment, and two more.
+pub(crate) fn link_exponent(link: LinkSize) -> u8
+    ensures { result ≡ exponent_of (link.attachments + 2) }
+{
+    exponent(u64::from(link.attachments) + 2)
+}
+
 /// Adds 2^`exponent` addresses to what a Net needs.
 ///
 /// # Errors
@@ -57,8 +64,7 @@ fn add_links(sums: &mut [u32], links: &[LinkSize]) -> Result<(), BlockFault>
     ensures fault { IfErr result (λ fault. fault ≡ BlockFault.NoSpace) }
 {
     for link in links {
-        let exponent = exponent(u64::from(link.attachments) + 2);
-        add(sums, link.net, exponent)?;
+        add(sums, link.net, link_exponent(*link))?;
     }
     Ok(())
 }

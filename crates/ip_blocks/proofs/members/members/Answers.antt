@@ -1,9 +1,10 @@
 use Rattle.std.proofs.Common.{◌≡◌, ℕ, ◌+◌, ◌<◌, List, length, get_or, slice_index, Some, refl, ap, subst, sym, ◌∙◌, arith}
 use Rattle.ip_blocks.specs.declared.layout.LinkSize.{LinkSize}
 use Rattle.ip_blocks.specs.declared.layout.NetParent.{NetParent}
+use Rattle.ip_blocks.specs.Apart.{no_link}
 use Rattle.ip_blocks.specs.Blocks.{Part, exponent_of, parts_of}
 use Rattle.ip_blocks.specs.Tree.{at}
-use Rattle.ip_blocks.proofs.Layouts.{no_net, no_link, length-parts_from, net_at, link_at}
+use Rattle.ip_blocks.proofs.Layouts.{no_net, length-parts_from, net_at, link_at}
 use Rattle.ip_blocks.proofs.Listing.{AreListed, listed_more, listed_all}
 use Rattle.ip_blocks.proofs.members.members.Goals as goal
 
@@ -31,7 +32,7 @@ loop-link-preserved c =
     let number : c.len-number.result ≡ length nets + k = omega (arith, c.loop-link.invariant.0, c.loop-link.members.ok.0, c.len-number.ensures) in
     rw (c.in_ok-push-2.ensures.items, ← next)
     (listed_more c.loop-link.members.items (parts_of links nets) (length nets + k) _ c.loop-link.invariant
-    (link_member links nets k c.exponent.result (omega arith) (c.exponent.ensures ∙ ap (λ a. exponent_of (a + 2)) c.from.ensures)) number)
+    (link_member links nets k c.link_exponent.result (omega arith) c.link_exponent.ensures) number)
 
 pub returns-clause-parts : goal.returns-clause-parts
 returns-clause-parts c =

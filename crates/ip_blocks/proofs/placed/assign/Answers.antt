@@ -5,12 +5,13 @@ use Rattle.ip_blocks.specs.declared.layout.LinkSize.{LinkSize}
 use Rattle.ip_blocks.specs.declared.layout.NetParent.{NetParent}
 use Rattle.ip_blocks.specs.declared.members.Member.{Member}
 use Rattle.ip_blocks.specs.Blocks.{Part, BlockLists, IsLayout, block_of, blocks_of, parts_of}
-use Rattle.ip_blocks.specs.Apart.{IsPlaced}
+use Rattle.ip_blocks.specs.Apart.{IsPlaced, AreNested}
 use Rattle.ip_blocks.specs.Sums.{AllFit}
 use Rattle.ip_blocks.specs.Members.{part_of}
 use Rattle.ip_blocks.proofs.Layouts.{is_tree, length-parts_from, link_at}
 use Rattle.ip_blocks.proofs.Adding.{top_too_large, top_fits, top_exponent}
 use Rattle.ip_blocks.proofs.Placing.{lists_of, is_placed, all_end}
+use Rattle.ip_blocks.proofs.Nesting.{are_nested}
 use Rattle.std.proofs.lemmas.Result.{err_from_is_err_and}
 use Rattle.ip_blocks.proofs.placed.assign.Goals as goal
 
@@ -84,6 +85,13 @@ returns-clause-laws c =
     let nets : List NetParent = c.args.nets.now in
     let blocks = made links nets c.in_ok-members.members.items c.as_slice-3.result.now c.in_ok-blocks.blocks.items c.as_slice-3.ensures.value c.in_ok-members.ensures.parts c.in_ok-blocks.ensures in
     subst (IsPlaced links) (sym (lists_are links nets c.in_ok-blocks.blocks.items blocks)) (laws links nets c.requires c.in_ok-exponents.ensures.fits)
+
+pub returns-clause-nested : goal.returns-clause-nested
+returns-clause-nested c =
+    let links : List LinkSize = c.args.links.now in
+    let nets : List NetParent = c.args.nets.now in
+    let blocks = made links nets c.in_ok-members.members.items c.as_slice-3.result.now c.in_ok-blocks.blocks.items c.as_slice-3.ensures.value c.in_ok-members.ensures.parts c.in_ok-blocks.ensures in
+    subst (AreNested links nets) (sym (lists_are links nets c.in_ok-blocks.blocks.items blocks)) (are_nested links nets c.requires (top_exponent links nets c.requires c.in_ok-exponents.ensures.fits))
 
 pub returns-clause-fits : goal.returns-clause-fits
 returns-clause-fits c = top_fits c.args.links.now c.args.nets.now c.requires c.in_ok-exponents.ensures.fits

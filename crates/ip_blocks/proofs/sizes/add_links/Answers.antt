@@ -1,9 +1,9 @@
 use Rattle.std.proofs.Common.{◌≡◌, ℕ, ◌+◌, ◌^◌, ◌<◌, ◌≤◌, List, length, get_or, map, take, slice_index, slice_set, refl, ap, ◌∙◌, arith}
 use Rattle.std.proofs.lemmas.List.{map_more, take-map}
 use Rattle.ip_blocks.specs.declared.layout.LinkSize.{LinkSize}
+use Rattle.ip_blocks.specs.Apart.{no_link}
 use Rattle.ip_blocks.specs.Blocks.{Part, exponent_of, sum_in, link_part, size_of}
 use Rattle.ip_blocks.specs.Sums.{AreSums, AreTooMany}
-use Rattle.ip_blocks.proofs.Layouts.{no_link}
 use Rattle.ip_blocks.proofs.Adding.{sums_zero, sums_add, sums_turn, sum_with, sum_in_push, sum_in-take-le}
 use Rattle.ip_blocks.proofs.Outcomes.{on_err_always}
 use Rattle.ip_blocks.proofs.sizes.add_links.Goals as goal
@@ -38,11 +38,11 @@ returns-in_err-add-clause-no_space c =
     let i : ℕ = c.loop-link.link-index in
     let links : List LinkSize = c.args.links.now in
     let there : (get_or links i no_link).net < length c.loop-link.sums = omega (arith, c.requires.nets i no_link (omega arith)) in
-    on_err_always c.from_residual.result (links_too_many links c.loop-link.sums (length c.args.sums.now) i c.exponent-exponent.result (omega arith) (omega arith) c.loop-link.invariant (c.exponent-exponent.ensures ∙ ap (λ a. exponent_of (a + 2)) c.from.ensures) there c.in_err-add.ensures.no_space)
+    on_err_always c.from_residual.result (links_too_many links c.loop-link.sums (length c.args.sums.now) i c.link_exponent.result (omega arith) (omega arith) c.loop-link.invariant c.link_exponent.ensures there c.in_err-add.ensures.no_space)
 
 pub loop-link-preserved : goal.loop-link-preserved
 loop-link-preserved c =
     let i : ℕ = c.loop-link.link-index in
     let links : List LinkSize = c.args.links.now in
     let there : (get_or links i no_link).net < length c.loop-link.sums = omega (arith, c.requires.nets i no_link (omega arith)) in
-    rw c.in_ok-add.ensures.ok (links_more links c.loop-link.sums i c.exponent-exponent.result (omega arith) c.loop-link.invariant (c.exponent-exponent.ensures ∙ ap (λ a. exponent_of (a + 2)) c.from.ensures) there c.in_ok-add.ensures.fits)
+    rw c.in_ok-add.ensures.ok (links_more links c.loop-link.sums i c.link_exponent.result (omega arith) c.loop-link.invariant c.link_exponent.ensures there c.in_ok-add.ensures.fits)
