@@ -1,5 +1,5 @@
 -- Walks of several arms and the paths of the search have the same least labels.
-use Rattle.std.proofs.Common.{◌≡◌, ◌≢◌, ℕ, ◌+◌, ◌<◌, ◌⊎◌, true, List, [], ◌∷◌, All, Option, Some, inl, inr, refl, sym, ap, subst, ◌∙◌, arith, Vec, Global}
+use Rattle.std.proofs.Common.{◌≡◌, ◌≢◌, ℕ, ◌+◌, ◌<◌, ◌⊎◌, true, List, [], ◌∷◌, length, All, Option, Some, None, inl, inr, refl, sym, ap, subst, ◌∙◌, arith, Vec, Global}
 use Rattle.std.specs.Prelude.{Contains}
 use Rattle.std.proofs.lemmas.Bool.{cases_eq}
 use Rattle.std.proofs.lemmas.List.Sums.{sum_by-cons}
@@ -37,6 +37,11 @@ pub record ByArm (arms : List Arm) (from link : ℕ) (r : Label) : Type 0 where
   pub on_link : arm.link ≡ link
   pub there : Arrives arms from arm.host label
   pub is : r ≡ behind label arm.cost
+
+-- at each link the least label of an arrival and an arm, and none where there is no such
+pub record IsFound (arms : List Arm) (from links : ℕ) (best : List (Option Label)) : Type 0 where
+  pub walked : (link : ℕ) (r : Label) → link < links → best_at best link ≡ Some r → ByArm arms from link r
+  pub least : (b : Arm) (l : Label) → Contains arms b → b.relays ≡ true → Arrives arms from b.host l → (r : Label) × (best_at best b.link ≡ Some r) × IsAtMost r (behind l b.cost)
 
 behind_zero : (l : Label) → IsAtMost (behind l 0) l
 behind_zero l = grind arith
@@ -99,13 +104,13 @@ module _ (arms : List Arm) (from links nodes : ℕ) (starts : List Start) (edges
 
   -- what the search finds at a link is reached by an arrival and an arm, and nothing of the kind is less
   module _ (best : List (Option Label)) (found : AreLeast starts edges best) where
-    pub found_least : (b : Arm) (l : Label) → Contains arms b → b.relays ≡ true → Arrives arms from b.host l → (r : Label) × (best_at best b.link ≡ Some r) × IsAtMost r (behind l b.cost)
+    found_least : (b : Arm) (l : Label) → Contains arms b → b.relays ≡ true → Arrives arms from b.host l → (r : Label) × (best_at best b.link ≡ Some r) × IsAtMost r (behind l b.cost)
     found_least b l known relays there =
         let p = path_of there in
         let r = found.least b.link (behind p.0 b.cost) (goes_on (leaves b) p.1 (net.all_arms b known relays).0) in
         (r.0, r.1, at_most_trans r.0 (behind p.0 b.cost) (behind l b.cost) r.2 (behind_at_most p.0 l b.cost p.2))
 
-    pub found_walk : (link : ℕ) (r : Label) → link < links → best_at best link ≡ Some r → ByArm arms from link r
+    found_walk : (link : ℕ) (r : Label) → link < links → best_at best link ≡ Some r → ByArm arms from link r
     found_walk link r lt e = elim (walk_of (found.reached link r e)) [
       | inl at ↦ absurd (omega (arith, at.node))
       | inr at ↦
@@ -114,6 +119,21 @@ module _ (arms : List Arm) (from links nodes : ℕ) (starts : List Start) (edges
           let one : least.0 ≡ r = cc in
           record { arm = at.arm; label = at.label; known = at.known; relays = at.relays; on_link = sym at.node; there = at.arrives_there; is = labels_same r (behind at.label at.arm.cost) (subst (λ (x : Label). IsAtMost x (behind at.label at.arm.cost)) one least.2) at.no_more }
     ]
+
+    pub is_found : IsFound arms from links best
+    is_found = record { walked = found_walk; least = found_least }
+
+-- without starts no host is entered, and no link has a label
+module _ (arms : List Arm) (from links : ℕ) (starts : List Start) (ins : AreEntries arms from links starts) (empty : length starts ≡ 0) where
+  no_arrival : {host : ℕ} {l : Label} → Arrives arms from host l → ⊥
+  no_arrival (enter a e h) = omega (arith, (ins.least a e h).1.1)
+  no_arrival (on b e before known relays there relays_too shared other) = no_arrival before
+
+  pub none_found : (best : List (Option Label)) → ((n : ℕ) → best_at best n ≡ None) → IsFound arms from links best
+  none_found best none = record {
+    walked = λ link r lt e. let both : None ≡ Some r = sym (none link) ∙ e in cc;
+    least = λ b l known relays there. absurd (no_arrival there);
+  }
 
 -- ---- walks as lists of arms
 module _ (arms : List Arm) (from : ℕ) (same_host : (a b : Arm) → Contains arms a → Contains arms b → a.host ≡ b.host → a.relays ≡ b.relays) where

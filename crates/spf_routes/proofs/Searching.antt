@@ -1,7 +1,8 @@
 -- What a search keeps: settled nodes have the least labels, and what leads on from them is queued.
-use Rattle.std.proofs.Common.{◌≡◌, ◌≢◌, ℕ, zero, suc, ◌+◌, ◌*◌, ◌<◌, ◌≤◌, ◌⊎◌, cond, List, [], ◌∷◌, length, set, slice_get, All, Option, Some, None, inl, inr, refl, sym, ap, subst, ◌∙◌, arith, Vec, Global, length-set, get_or-set_same, get_or-set_other}
+use Rattle.std.proofs.Common.{◌≡◌, ◌≢◌, ℕ, zero, suc, ◌+◌, ◌*◌, ◌<◌, ◌≤◌, ◌⊎◌, cond, List, [], ◌∷◌, length, get_or, set, slice_get, replicate, All, Option, Some, None, inl, inr, refl, sym, ap, subst, ◌∙◌, arith, Vec, Global, length-set, get_or-set_same, get_or-set_other}
 use Rattle.std.specs.Prelude.{Contains, count_by, is_some}
-use Rattle.std.proofs.lemmas.Bool.{cases_eq}
+use Rattle.std.proofs.lemmas.List.{get_or-replicate, get_or_past, length-replicate}
+use Rattle.std.proofs.lemmas.Bool.{cases_eq, cases_lt}
 use Rattle.std.proofs.lemmas.List.Sums.{sum_by-cons, count_by-le-length}
 use Rattle.std.proofs.lemmas.List.Elements.{All-contains}
 use Rattle.spf_routes.specs.declared.search.Label.{Label}
@@ -10,6 +11,13 @@ use Rattle.spf_routes.specs.declared.search.Start.{Start}
 use Rattle.spf_routes.specs.Walks.{IsAtMost}
 use Rattle.spf_routes.specs.Paths.{Queue, IsQueued, best_at, IsNextOf, behind, AreAdded, IsStart, HoldsStarts, IsEdge, IsPath, begins, goes_on, AreStarts, AreLeast}
 use Rattle.spf_routes.proofs.Queues.{at_most_refl, at_most_trans, at_most_behind, behind_at_most}
+
+-- a list of no labels
+pub none_at : (n : ℕ) (k : ℕ) → get_or (replicate k (let none : Option Label = None in none)) n None ≡ None
+none_at n k = elim (cases_lt n k) [
+  | inl low ↦ get_or-replicate k n None None low
+  | inr high ↦ get_or_past (replicate k None) n None (omega (arith, length-replicate k (let none : Option Label = None in none)))
+]
 
 abbrev pub Known : List (Option Label) → ℕ → Type 0
 Known best n = (b : Label) × (best_at best n ≡ Some b)

@@ -12,10 +12,10 @@ use Rattle.spf_routes.specs.declared.search.Edge.{Edge}
 use Rattle.spf_routes.specs.declared.search.Start.{Start}
 use Rattle.spf_routes.specs.Best.{route_at}
 use Rattle.spf_routes.specs.Walks.{Reaches, IsAtMost, IsLeast, label_of, IsTable, IsGraph}
-use Rattle.spf_routes.specs.Paths.{best_at, IsEdge, AreStarts, AreEdges, AreLeast}
+use Rattle.spf_routes.specs.Paths.{best_at, IsEdge, AreStarts, AreEdges}
 use Rattle.spf_routes.specs.Arms.{IsLesser, AreDirect, AreEntries, AreArms, AreRoutes}
 use Rattle.spf_routes.proofs.Queues.{at_most_trans}
-use Rattle.spf_routes.proofs.Reaching.{found_least, found_walk}
+use Rattle.spf_routes.proofs.Reaching.{IsFound}
 use Rattle.spf_routes.proofs.Walking.{reaches_by, reaches_alone, cases_reached}
 
 module _ (graph : Graph) (from nodes : ℕ) (g : IsGraph graph) (all_nodes : nodes ≡ length graph.blocks + graph.hosts) where
@@ -45,7 +45,7 @@ module _ (graph : Graph) (from nodes : ℕ) (g : IsGraph graph) (all_nodes : nod
         | inr back ↦ subst fits (sym back.1) (omega (arith, host_of a.0 a.1, net.as_many), omega arith)
       ]
 
-module _ (graph : Graph) (from nodes : ℕ) (direct best : List (Option Label)) (starts : List Start) (edges : List (Vec Edge Global)) (g : IsGraph graph) (alones : AreDirect graph.arms from (length graph.blocks) direct) (ins : AreEntries graph.arms from (length graph.blocks) starts) (net : AreArms graph.arms (length graph.blocks) nodes edges) (found : AreLeast starts edges best) where
+module _ (graph : Graph) (from : ℕ) (direct best : List (Option Label)) (g : IsGraph graph) (alones : AreDirect graph.arms from (length graph.blocks) direct) (found : IsFound graph.arms from (length graph.blocks) best) where
   -- whatever reaches a link has a label there that is no more
   known_at : (link : ℕ) (label : Label) → Reaches graph.arms from link label → (link < length graph.blocks) × (((b : Label) × (best_at direct link ≡ Some b) × IsAtMost b label) ⊎ ((b : Label) × (best_at best link ≡ Some b) × IsAtMost b label))
   known_at link label h = elim (cases_reached graph.arms from g.relays link label h) [
@@ -55,7 +55,7 @@ module _ (graph : Graph) (from nodes : ℕ) (direct best : List (Option Label)) 
         (subst (λ l. l < length graph.blocks) one.on_link low, inl (least.0, ap (best_at direct) (sym one.on_link) ∙ least.1, subst (IsAtMost least.0) (sym one.is) least.2))
     | inr by ↦
         let low : by.arm.link < length graph.blocks = All-contains (λ (arm : Arm). arm.link < length graph.blocks) graph.arms by.arm g.links by.known in
-        let least = found_least graph.arms from (length graph.blocks) nodes starts edges ins net g.links best found by.arm by.label by.known by.relays by.there in
+        let least = found.least by.arm by.label by.known by.relays by.there in
         (subst (λ l. l < length graph.blocks) by.on_link low, inr (least.0, ap (best_at best) (sym by.on_link) ∙ least.1, subst (IsAtMost least.0) (sym by.is) least.2))
   ]
 
@@ -65,7 +65,7 @@ module _ (graph : Graph) (from nodes : ℕ) (direct best : List (Option Label)) 
       | inl is ↦
           let w = alones.walked link r (sym is) in
           reaches_alone graph.arms from link r (record { arm = w.0; known = w.1; begins = w.2; on_link = w.3; is = w.4 })
-      | inr is ↦ reaches_by graph.arms from link r (found_walk graph.arms from (length graph.blocks) nodes starts edges ins net g.links best found link r lt (sym is))
+      | inr is ↦ reaches_by graph.arms from link r (found.walked link r lt (sym is))
     ];
     least = λ other h. elim (known_at link other h).1 [
       | inl one ↦ let below = rw one.1 at lesser.first in at_most_trans r one.0 other below one.2

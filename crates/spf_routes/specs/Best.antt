@@ -1,6 +1,6 @@
 -- The best route for an address: the longest block that holds it, the first of equals.
 use Rattle.std.specs.Prelude.{ℕ, ◌<◌, ◌≤◌, List, slice_index_or, Option, MatchOption}
-use Rattle.ip_blocks.specs.Blocks.{block_end}
+use Rattle.ip_blocks.specs.Blocks.{Holds}
 use Rattle.spf_routes.specs.declared.graph.Route.{Route}
 
 abbrev pub no_route : Route
@@ -11,7 +11,7 @@ route_at routes k = slice_index_or routes k no_route
 
 -- the block of the route at this place holds the address
 abbrev pub HoldsAt : List Route → ℕ → ℕ → Type 0
-HoldsAt routes address k = ((route_at routes k).block.base ≤ address) × (address < block_end (route_at routes k).block)
+HoldsAt routes address k = Holds (route_at routes k).block address
 
 -- of the first routes, as many as are said, this one holds the address by the longest block, and no
 -- earlier one has a block as long

@@ -15,6 +15,10 @@ pub struct Arm {
 }
 
 /// The hosts, by their count, the block of each link, and the arms on links that are up.
+///
+/// The number of each arm's host is below the count of hosts, that of its link below the count of
+/// blocks, and its cost is at most 65,535; all arms of one host have the same `relays`. There are at
+/// most 2^32 links.
 #[derive(Drop)]
 pub struct Graph {
     pub hosts: u32,

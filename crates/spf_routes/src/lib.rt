@@ -1,5 +1,6 @@
-//! Least routes: for each link the walk of least cost from a host, over hosts that relay, as OSPF
-//! (RFC 2328) takes them; and the best route for an address, by the longest block.
+//! Least routes: for each link the walk of least cost from a host, over hosts that relay; and the best
+//! route for an address, by the longest block. Costs are of outgoing interfaces, as in OSPF (RFC 2328);
+//! the rules for ties are this project's own.
 //!
 //! An arm is an interface that lies on a link. A walk goes from a host by one of its arms to a link,
 //! from there by an arm of another host on that link to a further link, and so on; all hosts of a

@@ -62,7 +62,8 @@ fn relays(arms: &[Arm], from: u32) -> bool
     false
 }
 
-/// The starts of the search: every host that the host reaches over one of its links.
+/// The starts of the search: every host that relays and that the host reaches over one of its links,
+/// and none where the host itself does not relay.
 fn starts(
     alloc: Global,
     arms: &[Arm],
@@ -153,10 +154,13 @@ fn table(
 
 /// For each link that a walk reaches from the host its least route, in the order of the links.
 ///
-/// `from` is the host's number. A host that does not relay has only the routes of its own links.
+/// `from` is the host's number, below the count of hosts. In the graph the numbers of hosts and links
+/// are in range, costs are at most 65,535, and the arms of one host have the same `relays`. A host
+/// that does not relay has only the routes of its own links.
 ///
 /// With E arms and V hosts and links the work is in proportion to V + E log E, and the memory to
-/// V + E.
+/// V + E. For a host that does not relay, or that has no neighbor that does, the work is in
+/// proportion to E and the links, and the memory to the links.
 ///
 /// # Errors
 /// `Memory` where there was no memory.
@@ -170,6 +174,10 @@ pub fn shortest(alloc: Global, graph: &Graph, from: u32) -> Result<Vec<Route>, M
     let links = blocks.len();
     let direct = direct_labels(alloc, links, arms, from)?;
     let starts = starts(alloc, arms, direct.as_slice(), from)?;
+    if starts.is_empty() {
+        let none = vec![in alloc; None; links]?;
+        return table(alloc, blocks, direct.as_slice(), none.as_slice());
+    }
     let edges = edges(alloc, links, links + graph.hosts as usize, arms)?;
     let best = settle(alloc, starts.as_slice(), edges.as_slice())?;
     table(alloc, blocks, direct.as_slice(), best.as_slice())

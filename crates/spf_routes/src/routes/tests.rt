@@ -95,63 +95,48 @@ fn has_routes(
 }
 
 /// Host 0 is joined to hosts 1 and 2, each of these to host 3, and host 3 to host 4.
+const SQUARE: [ArmRow; 10] = [
+    (0, 0, 0, 1, 1),
+    (1, 0, 0, 2, 1),
+    (0, 1, 1, 5, 1),
+    (2, 0, 1, 6, 1),
+    (1, 1, 2, 9, 1),
+    (3, 0, 2, 10, 1),
+    (2, 1, 3, 13, 1),
+    (3, 1, 3, 14, 1),
+    (3, 2, 4, 17, 1),
+    (4, 0, 4, 18, 1),
+];
+
 #[test]
 fn takes_the_least_interface(rt: HostRuntime) -> Result<(), Fail> {
     let alloc = rt.alloc();
-    let relays = [true; 5];
     let blocks = [(0, 30), (4, 30), (8, 30), (12, 30), (16, 30)];
-    let arms = [
-        (0, 0, 0, 1, 1),
-        (1, 0, 0, 2, 1),
-        (0, 1, 1, 5, 1),
-        (2, 0, 1, 6, 1),
-        (1, 1, 2, 9, 1),
-        (3, 0, 2, 10, 1),
-        (2, 1, 3, 13, 1),
-        (3, 1, 3, 14, 1),
-        (3, 2, 4, 17, 1),
-        (4, 0, 4, 18, 1),
+    let graph = graph(&rt, alloc, &[true; 5], &blocks, &SQUARE)?;
+    let from_0 = [
+        (0, 0, 0, 1),
+        (1, 1, 0, 1),
+        (2, 0, 2, 2),
+        (3, 1, 6, 2),
+        (4, 0, 2, 3),
     ];
-    let graph = graph(&rt, alloc, &relays, &blocks, &arms)?;
-    has_routes(
-        &rt,
-        alloc,
-        &graph,
-        0,
-        &[
-            (0, 0, 0, 1),
-            (1, 1, 0, 1),
-            (2, 0, 2, 2),
-            (3, 1, 6, 2),
-            (4, 0, 2, 3),
-        ],
-    )?;
-    has_routes(
-        &rt,
-        alloc,
-        &graph,
-        3,
-        &[
-            (0, 0, 9, 2),
-            (1, 1, 13, 2),
-            (2, 0, 0, 1),
-            (3, 1, 0, 1),
-            (4, 2, 0, 1),
-        ],
-    )?;
-    has_routes(
-        &rt,
-        alloc,
-        &graph,
-        4,
-        &[
-            (0, 0, 17, 3),
-            (1, 0, 17, 3),
-            (2, 0, 17, 2),
-            (3, 0, 17, 2),
-            (4, 0, 0, 1),
-        ],
-    )?;
+    let from_3 = [
+        (0, 0, 9, 2),
+        (1, 1, 13, 2),
+        (2, 0, 0, 1),
+        (3, 1, 0, 1),
+        (4, 2, 0, 1),
+    ];
+    let from_4 = [
+        (0, 0, 17, 3),
+        (1, 0, 17, 3),
+        (2, 0, 17, 2),
+        (3, 0, 17, 2),
+        (4, 0, 0, 1),
+    ];
+    for (from, wanted) in [(0, from_0), (3, from_3), (4, from_4)] {
+        has_routes(&rt, alloc, &graph, from, &wanted)?;
+    }
     Ok(())
 }
 

@@ -2,21 +2,14 @@ use Rattle.std.proofs.Common.{◌≡◌, ℕ, zero, suc, ◌<◌, ◌≤◌, Lis
 use Rattle.std.specs.Prelude.{count_by, is_some}
 use Rattle.std.specs.BinaryHeap.{heap_items}
 use Rattle.std.specs.declared.cmp.Reverse.{Reverse}
-use Rattle.std.proofs.lemmas.List.{get_or-replicate, get_or_past, length-replicate}
+use Rattle.std.proofs.lemmas.List.{length-replicate}
 use Rattle.std.proofs.lemmas.List.Sums.{sum_by-cons}
 use Rattle.std.proofs.lemmas.List.Elements.{Contains-get_or}
-use Rattle.std.proofs.lemmas.Bool.{cases_lt}
 use Rattle.spf_routes.specs.declared.search.Label.{Label}
 use Rattle.spf_routes.specs.declared.search.Edge.{Edge}
 use Rattle.spf_routes.specs.Paths.{Queue, IsQueued, AreEdges}
-use Rattle.spf_routes.proofs.Searching.{cases_known, first_search, step, finished, all_known}
+use Rattle.spf_routes.proofs.Searching.{none_at, cases_known, first_search, step, finished, all_known}
 use Rattle.spf_routes.proofs.search.settle.Goals as goal
-
-none_at : (n : ℕ) (k : ℕ) → get_or (replicate k (let none : Option Label = None in none)) n None ≡ None
-none_at n k = elim (cases_lt n k) [
-  | inl low ↦ get_or-replicate k n None None low
-  | inr high ↦ get_or_past (replicate k None) n None (omega (arith, length-replicate k (let none : Option Label = None in none)))
-]
 
 none_counted : (k : ℕ) → count_by (λ (o : Option Label). is_some o) (replicate k None) ≡ 0
 none_counted zero = refl
