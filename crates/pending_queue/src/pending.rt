@@ -68,6 +68,7 @@ impl<T: Keyed + Drop> Pending<T> {
         ensures items { self.new.items ≡ self.old.items }
         ensures spare { OnOk result (n ≤ self.new.spare) }
         ensures no_less { self.old.spare ≤ self.new.spare }
+        ensures enough { 0 < self.old.spare → n ≤ self.old.spare → IsOk result }
         ensures err { OnErr result (self.new ≡ self.old) }
     {
         let missing = n.saturating_sub(self.nodes.len() - self.count);
@@ -173,10 +174,17 @@ impl<T: Keyed + Drop> Pending<T> {
         ensures empty { IsNone result → self.new ≡ self.old }
         ensures least { IfSome result (λ item. self.old.items ≡ item ∷ self.new.items) }
         ensures spare { IsSome result → self.new.spare ≡ self.old.spare + 1 }
+        ensures rising { IsRising T.key_of self.old.items }
     {
         let item = self.remove_least();
         self.balance();
         item
+    }
+
+    /// How many days the table has.
+    #[cfg(test)]
+    pub(crate) fn day_count(&self) -> usize {
+        self.days.len()
     }
 
     /// Takes out the item with the least key, and answers None where the queue is empty.
@@ -185,6 +193,7 @@ impl<T: Keyed + Drop> Pending<T> {
         ensures empty { IsNone result → self.new ≡ self.old }
         ensures least { IfSome result (λ item. self.old.items ≡ item ∷ self.new.items) }
         ensures spare { IsSome result → self.new.spare ≡ self.old.spare + 1 }
+        ensures rising { IsRising T.key_of self.old.items }
     {
         let at = self.least?;
         let key = self.nodes[at].key;

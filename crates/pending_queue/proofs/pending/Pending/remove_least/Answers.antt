@@ -5,7 +5,8 @@ use Rattle.pending_queue.specs.Nodes.{slot, sorted, day_number, IsCalendar, IsLe
 use Rattle.std.specs.Option.{is_some}
 use Rattle.pending_queue.specs.Queue.{Queue}
 use Rattle.pending_queue.proofs.NodeLemmas.{slot_key, next_or}
-use Rattle.pending_queue.proofs.QueueLemmas.{least_none, least_within, left_apart, left_linked, left_reached, left_sorted, left_queue, left_some, none_is, none_both, some_is, spare_left, days_some, count_most}
+use Rattle.event_order.specs.Pending.{IsRising}
+use Rattle.pending_queue.proofs.QueueLemmas.{rises, least_none, least_within, left_apart, left_linked, left_reached, left_sorted, left_queue, left_some, none_is, none_both, some_is, spare_left, days_some, count_most}
 use Rattle.pending_queue.proofs.pending.Pending.remove_least.Goals as goal
 
 pub returns-in_err-at-clause-none : goal.returns-in_err-at-clause-none
@@ -54,3 +55,9 @@ returns-clause-spare g c = λ some. spare_left c.self.inside.days.items c.drop_f
     (let m = count_most g.T.Keyed.key_of c.self.inside.nodes.items c.self.inside.free c.self.inside.count c.self.inside.days.items c.self.inside.width c.self.inside.least c.self.invariant in let a = c.self.inside.nodes.ok.0 in let b = c.self.inside.nodes.ok.1 in omega arith)
     (let h = (left_some g.T.Keyed.key_of c.self.inside.nodes.items c.release_item-item.new.nodes.items c.self.inside.days.items c.drop_first_of.new.days.items c.in_ok-at.at c.day_of-day.result c.self.inside.width (least_within g.T.Keyed.key_of c.self.inside.nodes.items c.self.inside.least c.in_ok-at.at c.self.invariant.least_is c.in_ok-at.was).0 c.release_item-item.result c.self.inside.free c.index-2.result.now.next c.index.result.now c.release_item-item.ensures.releases (least_within g.T.Keyed.key_of c.self.inside.nodes.items c.self.inside.least c.in_ok-at.at c.self.invariant.least_is c.in_ok-at.was).2 c.self.invariant.apart (least_within g.T.Keyed.key_of c.self.inside.nodes.items c.self.inside.least c.in_ok-at.at c.self.invariant.least_is c.in_ok-at.was).3 c.self.invariant.keyed).2 in let n = c.self.invariant.counted in omega arith)
     ∙ ap (λ (q : Queue g.row.T.Denot). q.spare + 1) c.self.view_is
+
+pub returns-in_err-at-clause-rising : goal.returns-in_err-at-clause-rising
+returns-in_err-at-clause-rising g c = subst (λ xs. IsRising g.T.Keyed.key_of xs) (ap (λ (q : Queue g.row.T.Denot). q.items) c.self.view_is) (rises g.T.Keyed.key_of c.self.inside.nodes.items c.self.inside.free c.self.inside.count c.self.inside.days.items c.self.inside.width c.self.inside.least c.self.invariant)
+
+pub returns-clause-rising : goal.returns-clause-rising
+returns-clause-rising g c = subst (λ xs. IsRising g.T.Keyed.key_of xs) (ap (λ (q : Queue g.row.T.Denot). q.items) c.self.view_is) (rises g.T.Keyed.key_of c.self.inside.nodes.items c.self.inside.free c.self.inside.count c.self.inside.days.items c.self.inside.width c.self.inside.least c.self.invariant)
