@@ -5,7 +5,34 @@ use Rattle.event_order.specs.declared.key.Key.{Key}
 use Rattle.event_order.specs.Order.{comes_before, IsBefore}
 use Rattle.event_order.proofs.Order.{before_trans, before_cases, before_irrefl, before_asym}
 use Rattle.event_order.proofs.Pending.{test_cases}
-use Rattle.pending_queue.specs.Chains.{IsAfter, FirstAt, IsFirst, InDay, FollowsInDay, IsLinked, IsApartAt, Adds, Joins, Parts}
+use Rattle.pending_queue.specs.Chains.{IsAfter, FirstAt, IsFirst, InDay, FollowsInDay, IsLinked, IsApartAt}
+
+-- the second places are the first ones with one more key
+pub record Adds (old new : ℕ → Option Key) (at : ℕ) (key : Key) : Type 0 where
+  pub was : old at ≡ None
+  pub is : new at ≡ Some key
+  pub others : (i : ℕ) → (i ≡ at → ⊥) → new i ≡ old i
+
+-- the place f was put between pred and succ in the chain of the day d
+pub record Joins (f d : ℕ) (pred succ : Option ℕ) (next first last next' first' last' : ℕ → Option ℕ) : Type 0 where
+  pub next_new : next' f ≡ succ
+  pub next_pred : (p : ℕ) → pred ≡ Some p → next' p ≡ Some f
+  pub next_same : (i : ℕ) → (i ≡ f → ⊥) → (pred ≡ Some i → ⊥) → next' i ≡ next i
+  pub first_new : pred ≡ None → first' d ≡ Some f
+  pub first_kept : (p : ℕ) → pred ≡ Some p → first' d ≡ first d
+  pub first_same : (e : ℕ) → (e ≡ d → ⊥) → first' e ≡ first e
+  pub last_new : succ ≡ None → last' d ≡ Some f
+  pub last_kept : (q : ℕ) → succ ≡ Some q → last' d ≡ last d
+  pub last_same : (e : ℕ) → (e ≡ d → ⊥) → last' e ≡ last e
+
+-- the place a, the first in the chain of the day d, was taken out of it
+pub record Parts (a d : ℕ) (next first last next' first' last' : ℕ → Option ℕ) : Type 0 where
+  pub next_same : (i : ℕ) → (i ≡ a → ⊥) → next' i ≡ next i
+  pub first_next : first' d ≡ next a
+  pub first_same : (e : ℕ) → (e ≡ d → ⊥) → first' e ≡ first e
+  pub last_none : next a ≡ None → last' d ≡ None
+  pub last_kept : (b : ℕ) → next a ≡ Some b → last' d ≡ last d
+  pub last_same : (e : ℕ) → (e ≡ d → ⊥) → last' e ≡ last e
 
 eq_true : (a b : ℕ) → nat_eq a b ≡ true → a ≡ b
 eq_true a b h = grind (arith, common_steps)
@@ -179,7 +206,7 @@ module _ (s s' : ℕ → Option Key) (f : ℕ) (x : Key) (add : Adds s s' f x) w
         ];
       }
 
--- ---- the least key goes
+-- ---- the least key of a day goes
 
 module _ (s s' : ℕ → Option Key) (a : ℕ) (x : Key) (add : Adds s' s a x) (apart : IsApartAt s) where
   pub was_there : (i : ℕ) (k : Key) → s' i ≡ Some k → s i ≡ Some k
@@ -200,9 +227,9 @@ module _ (s s' : ℕ → Option Key) (a : ℕ) (x : Key) (add : Adds s' s a x) (
     first = λ i k c p. h.first i k (was_there i k c) p;
   }
 
-  module _ (day : Key → ℕ) (least : (i : ℕ) (k : Key) → s i ≡ Some k → (i ≡ a) ⊎ IsBefore x k) where
-    later : (i : ℕ) (k : Key) → s' i ≡ Some k → IsBefore x k
-    later i k h = elim (least i k (was_there i k h)) [ inl e ↦ absurd (other_place i k h e) | inr b ↦ b ]
+  module _ (day : Key → ℕ) (least : (i : ℕ) (k : Key) → s i ≡ Some k → day k ≡ day x → (i ≡ a) ⊎ IsBefore x k) where
+    later : (i : ℕ) (k : Key) → s' i ≡ Some k → day k ≡ day x → IsBefore x k
+    later i k h d = elim (least i k (was_there i k h) d) [ inl e ↦ absurd (other_place i k h e) | inr b ↦ b ]
 
     -- the key at an end with the given property is not x
     not_at : (R : Key → Key → Type 0) (P : Key → Type 0) (at : Option ℕ) → (P x → ⊥) → IsFirst R s P at → at ≡ Some a → ⊥
@@ -211,16 +238,16 @@ module _ (s s' : ℕ → Option Key) (a : ℕ) (x : Key) (add : Adds s' s a x) (
         never (subst P (one_key_at s a h.key x (subst (λ n. s n ≡ Some h.key) same h.is) add.is) h.holds)
 
     first_left : (at : Option ℕ) → IsFirst IsBefore s (FollowsInDay day x) at → IsFirst IsBefore s' (InDay day (day x)) at
-    first_left None h = λ i k b p. h i k (was_there i k b) (p, later i k b)
+    first_left None h = λ i k b p. h i k (was_there i k b) (p, later i k b p)
     first_left (Some b) h = record {
       key = h.key;
       is = still_there b h.key h.is (λ e. before_irrefl x (subst (λ k. IsBefore x k) (one_key_at s a h.key x (subst (λ n. s n ≡ Some h.key) e h.is) add.is) h.holds.1));
       holds = h.holds.0;
-      first = λ i k c p. h.first i k (was_there i k c) (p, later i k c);
+      first = λ i k c p. h.first i k (was_there i k c) (p, later i k c p);
     }
 
     last_gone : IsFirst IsBefore s (FollowsInDay day x) None → IsFirst IsAfter s' (InDay day (day x)) None
-    last_gone h = λ i k b p. h i k (was_there i k b) (p, later i k b)
+    last_gone h = λ i k b p. h i k (was_there i k b) (p, later i k b p)
 
     last_left : (b : ℕ) (end : Option ℕ) → IsFirst IsBefore s (FollowsInDay day x) (Some b) → IsFirst IsAfter s (InDay day (day x)) end → IsFirst IsAfter s' (InDay day (day x)) end
     last_left b end h l = remove_other IsAfter (InDay day (day x)) end (λ e. not_end b end h l e) l
@@ -250,7 +277,7 @@ module _ (s s' : ℕ → Option Key) (a : ℕ) (x : Key) (add : Adds s' s a x) (
       ];
       next_of = λ i k b. subst (λ at. IsFirst IsBefore s' (FollowsInDay day k) at) (sym (j.next_same i (other_place i k b)))
           (remove_other IsBefore (FollowsInDay day k) (next i)
-          (not_at IsBefore (FollowsInDay day k) (next i) (λ q. before_asym x k (later i k b) q.1) (linked.next_of i k (was_there i k b)))
+          (not_at IsBefore (FollowsInDay day k) (next i) (λ q. before_asym x k (later i k b (sym q.0)) q.1) (linked.next_of i k (was_there i k b)))
           (linked.next_of i k (was_there i k b)));
     }
       where

@@ -4,6 +4,7 @@ pub mod WalkLemmas
 pub mod PlaceLemmas
 pub mod LinkLemmas
 pub mod RelinkLemmas
+pub mod ListLemmas
 pub mod SearchLemmas
 pub mod StoreLemmas
 pub mod QueueLemmas

@@ -15,11 +15,11 @@ use Rattle.event_order.proofs.Order.{before_trans, before_cases, before_asym, be
 use Rattle.event_order.proofs.Pending.{test_cases, put_all_rises, among_append_left, among_append_right, append_among, among_put_all_self, put_among, put_all_among}
 use Rattle.pending_queue.specs.declared.node.Node.{Node}
 use Rattle.pending_queue.specs.declared.node.Day.{Day}
-use Rattle.pending_queue.specs.Chains.{IsFirst, IsApartAt, IsLinked, Adds, Parts}
+use Rattle.pending_queue.specs.Chains.{IsFirst, IsApartAt, IsLinked}
 use Rattle.pending_queue.specs.Nodes.{key_where, key_in, next_in, slot, next_at, item_in, item_at, held, items_of, sorted, first_in, last_in, last_left, first_at, last_at, day_number, SetsDay, HasReached, without, AreEmpty, CanLink, IsCalendar, IsLeast, IsWithin, Picks, SameNodes}
 use Rattle.pending_queue.specs.Store.{HasFree, Occupies, Releases}
 use Rattle.pending_queue.specs.Queue.{Queue, queue, spare_of, IsQueue}
-use Rattle.pending_queue.proofs.ChainLemmas.{same_or_not, one_key_at, was_there, parted}
+use Rattle.pending_queue.proofs.ChainLemmas.{Adds, Parts, same_or_not, one_key_at, was_there, parted}
 use Rattle.pending_queue.proofs.WalkLemmas.{first_alike, first_same}
 use Rattle.pending_queue.proofs.NodeLemmas.{slot_within, at_place}
 use Rattle.pending_queue.proofs.PlaceLemmas.{without_same, without_other}
@@ -233,10 +233,11 @@ module _ {T : Type 0} (key : T → Key) where
       | inr n ↦ keyed i q x (sym (occ_other i n) ∙ a) (sym (ap item_in (o.others i n)) ∙ b)
     ]
 
-    pub occ_can : (width : ℕ) (days : List Day) → IsCalendar width old days → CanLink width new days at
+    pub occ_can : (width : ℕ) (days : List Day) → IsCalendar width old days → CanLink [] width new days at
     occ_can width days linked = record {
       key = k;
       is = occ_slot;
+      aside = λ a. a;
       apart = occ_apart;
       linked = linked_alike (day_number width (length days)) (slot old) (without at (slot new)) (next_at old) (next_at new) (first_at days) (last_at days)
           (λ i. elim (same_or_not i at) [
@@ -380,7 +381,7 @@ module _ {T : Type 0} (key : T → Key) (old new : List (Node T)) (days days' : 
 
   pub left_linked : d ≡ day_number width (length days) k → next ≡ next_at old at → IsCalendar width old days → SetsDay days days' d next (last_left next (last_at days d)) → IsCalendar width new days'
   left_linked day_is next_is linked set = subst (λ len. IsLinked (day_number width len) (slot new) (next_at new) (first_at days') (last_at days')) (sym set.len)
-      (parted (slot old) (slot new) at k rel_adds apart (day_number width (length days)) least (next_at old) (first_at days) (last_at days) (next_at new) (first_at days') (last_at days') linked
+      (parted (slot old) (slot new) at k rel_adds apart (day_number width (length days)) (λ i j a e. least i j a) (next_at old) (first_at days) (last_at days) (next_at new) (first_at days') (last_at days') linked
       (subst (λ e. Parts at e (next_at old) (first_at days) (last_at days) (next_at new) (first_at days') (last_at days')) day_is (record {
         next_same = λ i m. ap next_in (r.others i m);
         first_next = set.first_is ∙ next_is;

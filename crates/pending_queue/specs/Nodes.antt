@@ -2,7 +2,7 @@
 use Rattle.std.specs.Prelude.{◌≡◌, ℕ, ◌<◌, ◌≤◌, ◌/◌, ◌%◌, cond, nat_eq, List, [], ◌∷◌, ◌++◌, length, slice_get, Option, Some, None}
 use Rattle.event_order.specs.declared.key.Key.{Key}
 use Rattle.event_order.specs.Order.{comes_before, IsBefore}
-use Rattle.event_order.specs.Pending.{put_all}
+use Rattle.event_order.specs.Pending.{put_all, Among}
 use Rattle.pending_queue.specs.declared.node.Node.{Node}
 use Rattle.pending_queue.specs.declared.node.Day.{Day}
 use Rattle.pending_queue.specs.Chains.{IsAfter, IsFirst, IsLinked, IsApartAt}
@@ -71,12 +71,54 @@ day_number width days key = (key.time / width) % days
 abbrev pub without : ℕ → (ℕ → Option Key) → ℕ → Option Key
 without at slots i = cond (nat_eq i at) None (slots i)
 
--- the chains of all days hold all items but the one at this place
-pub record CanLink {T : Type 0} (width : ℕ) (nodes : List (Node T)) (days : List Day) (at : ℕ) : Type 0 where
+-- the same places without those of a list
+abbrev pub outside : List ℕ → (ℕ → Option Key) → ℕ → Option Key
+outside [] slots = slots
+outside (at ∷ left) slots = without at (outside left slots)
+
+-- the place has an item
+abbrev pub IsUsed : {T : Type 0} → List (Node T) → ℕ → Type 0
+IsUsed nodes at = (key : Key) × (slot nodes at ≡ Some key)
+
+-- these places, all with items and different, are the list of nodes that begins at `list`
+abbrev pub IsListed : {T : Type 0} → List (Node T) → Option ℕ → List ℕ → Type 0
+IsListed nodes list [] = list ≡ None
+IsListed nodes list (at ∷ left) = (list ≡ Some at) × IsUsed nodes at × (Among at left → ⊥) × IsListed nodes (next_at nodes at) left
+
+-- the chains of all days hold all items but those at these places
+abbrev pub IsCalendarBut : {T : Type 0} → List ℕ → ℕ → List (Node T) → List Day → Type 0
+IsCalendarBut left width nodes days = IsLinked (day_number width (length days)) (outside left (slot nodes)) (next_at nodes) (first_at days) (last_at days)
+
+-- the chains of all days hold all items but the one at this place and those at the places `left`
+pub record CanLink {T : Type 0} (left : List ℕ) (width : ℕ) (nodes : List (Node T)) (days : List Day) (at : ℕ) : Type 0 where
   pub key : Key
   pub is : slot nodes at ≡ Some key
+  pub aside : Among at left → ⊥
   pub apart : IsApartAt (slot nodes)
-  pub linked : IsLinked (day_number width (length days)) (without at (slot nodes)) (next_at nodes) (first_at days) (last_at days)
+  pub linked : IsLinked (day_number width (length days)) (without at (outside left (slot nodes))) (next_at nodes) (first_at days) (last_at days)
+
+-- the same for some places
+pub record IsToLink {T : Type 0} (width : ℕ) (nodes : List (Node T)) (days : List Day) (at : ℕ) : Type 0 where
+  pub left : List ℕ
+  pub can : CanLink left width nodes days at
+
+-- each item is in the chain of its day, by this rule for days, or in the list that begins at `list`
+pub record IsPartedBy {T : Type 0} (day : Key → ℕ) (nodes : List (Node T)) (days : List Day) (list : Option ℕ) : Type 0 where
+  pub left : List ℕ
+  pub listed : IsListed nodes list left
+  pub linked : IsLinked day (outside left (slot nodes)) (next_at nodes) (first_at days) (last_at days)
+
+-- the same for some rule
+pub record IsParted {T : Type 0} (nodes : List (Node T)) (days : List Day) (list : Option ℕ) : Type 0 where
+  pub day : Key → ℕ
+  pub within : (k : Key) → day k < length days
+  pub parted : IsPartedBy day nodes days list
+
+-- each item is in the list that begins at `list`
+pub record IsGathered {T : Type 0} (nodes : List (Node T)) (list : Option ℕ) : Type 0 where
+  pub left : List ℕ
+  pub listed : IsListed nodes list left
+  pub all : (i : ℕ) → outside left (slot nodes) i ≡ None
 
 -- the chains of all days hold all items
 abbrev pub IsCalendar : {T : Type 0} → ℕ → List (Node T) → List Day → Type 0
@@ -106,10 +148,10 @@ pub record SetsDay (old new : List Day) (d : ℕ) (first last : Option ℕ) : Ty
   pub last_is : last_at new d ≡ last
   pub others : (i : ℕ) → (i ≡ d → ⊥) → slice_get new i ≡ slice_get old i
 
--- pred is the last node of its day before the key at this place, and None where the day has none
-abbrev pub IsPreceded : {T : Type 0} → ℕ → List (Node T) → ℕ → ℕ → Option ℕ → Type 0
-IsPreceded width nodes days at pred = (x : Key) → slot nodes at ≡ Some x
-    → IsFirst IsAfter (without at (slot nodes)) (λ k. (day_number width days k ≡ day_number width days x) × IsBefore k x) pred
+-- pred is the last node in the chain of its day before the key at this place, and None where there is none
+abbrev pub IsPreceded : {T : Type 0} → List ℕ → ℕ → List (Node T) → ℕ → ℕ → Option ℕ → Type 0
+IsPreceded left width nodes days at pred = (x : Key) → slot nodes at ≡ Some x
+    → IsFirst IsAfter (without at (outside left (slot nodes))) (λ k. (day_number width days k ≡ day_number width days x) × IsBefore k x) pred
 
 -- the place stands in a list of this length, where it is one
 abbrev pub IsWithin : Option ℕ → ℕ → Type 0
@@ -127,9 +169,13 @@ end_with None end at = Some at
 end_with (Some neighbour) end at = end
 
 -- pred, where there is one, names the place as the next
-abbrev pub Hooks : {T : Type 0} → List (Node T) → List (Node T) → Option ℕ → ℕ → Type 0
-Hooks old new None at = new ≡ old
-Hooks old new (Some pred) at = SetsNext old new pred (Some at)
+abbrev pub NamesNext : {T : Type 0} → List (Node T) → List (Node T) → Option ℕ → ℕ → Type 0
+NamesNext old new None at = new ≡ old
+NamesNext old new (Some pred) at = SetsNext old new pred (Some at)
+
+-- the chains of two tables have the same ends, and those of the days that one of them lacks have none
+abbrev pub HaveSameEnds : List Day → List Day → Type 0
+HaveSameEnds old new = (d : ℕ) → (first_at new d ≡ first_at old d) × (last_at new d ≡ last_at old d)
 
 -- no chain of the table has a node
 abbrev pub AreEmpty : List Day → Type 0

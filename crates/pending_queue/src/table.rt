@@ -1,11 +1,11 @@
 //! The table of days, and how it grows.
 
-ghost use Rattle.std.specs.Prelude.{◌≡◌, ◌<◌, ◌≤◌, length, vec_capacity, Some, OnOk, OnErr};
+ghost use Rattle.std.specs.Prelude.{◌≡◌, ℕ, ◌<◌, ◌≤◌, [], Option, None, length, vec_capacity, Some, OnOk, OnErr};
 ghost use Rattle.pending_queue.specs.Chains.{IsApartAt};
-ghost use Rattle.pending_queue.specs.Nodes.{slot, AreEmpty, CanLink, IsCalendar, SameNodes, SetsDay, last_at, last_left};
+ghost use Rattle.pending_queue.specs.Nodes.{slot, last_at, last_left, AreEmpty, CanLink, HaveSameEnds, IsCalendar, IsParted, SameNodes, SetsDay};
 ghost use Rattle.pending_queue.specs.Store.{Releases};
 
-use crate::chain::{drop_first, link, relink};
+use crate::chain::{drop_first, gather, link_only, relink};
 use crate::node::{Day, Node, Steps};
 use crate::store::release;
 use std::alloc::AllocError;
@@ -43,6 +43,20 @@ pub(crate) fn empty_table(days: &mut Vec<Day>, count: usize) -> Result<(), Alloc
     days.resize(count, NO_NODES)
 }
 
+/// Gives the table more days, `count` in all, without nodes.
+///
+/// # Errors
+/// `AllocError`, and then the table is as it was.
+fn grow(days: &mut Vec<Day>, count: usize) -> Result<(), AllocError>
+    requires { length days.old.items ≤ count }
+    ensures len { OnOk result (length days.new.items ≡ count) }
+    ensures ends { HaveSameEnds days.old.items days.new.items }
+    ensures more { length days.old.items ≤ length days.new.items }
+    ensures err { OnErr result (days.new.items ≡ days.old.items) }
+{
+    days.resize(count, NO_NODES)
+}
+
 /// The width of a day that spreads the times of these nodes over as many days as there are items:
 /// the span of the times divided by `count`, and at least 1.
 fn width_for<T>(nodes: &[Node<T>], count: usize) -> u64
@@ -61,7 +75,7 @@ fn width_for<T>(nodes: &[Node<T>], count: usize) -> u64
 }
 
 /// Puts the node `at`, which no chain holds, into the chain of its day. `walked` rises by one for
-/// each step along the chain.
+/// each step along the chain. This is `link_only` for vectors, whose capacity it keeps.
 pub(crate) fn link_item<T>(
     nodes: &mut Vec<Node<T>>,
     days: &mut Vec<Day>,
@@ -72,20 +86,13 @@ pub(crate) fn link_item<T>(
     requires width { 0 < width }
     requires days { 0 < length days.old.items }
     requires at { at < length nodes.old.items }
-    requires can { CanLink width nodes.old.items days.old.items at }
+    requires can { CanLink [] width nodes.old.items days.old.items at }
     ensures linked { IsCalendar width nodes.new.items days.new.items }
     ensures same { SameNodes nodes.old.items nodes.new.items }
     ensures days { length days.new.items ≡ length days.old.items }
     ensures capacity { vec_capacity nodes.new ≡ vec_capacity nodes.old }
 {
-    link(nodes, days, width, at, walked);
-}
-
-/// Takes all nodes out of the chains.
-fn clear(days: &mut [Day])
-    ensures { AreEmpty days.new }
-{
-    days.fill(NO_NODES);
+    link_only(nodes, days, width, at, walked);
 }
 
 /// Spreads the nodes over the table anew, with days of the width `first`, and answers the width.
@@ -93,20 +100,23 @@ fn clear(days: &mut [Day])
 fn spread<T>(nodes: &mut [Node<T>], days: &mut [Day], first: u64, most: Option<u64>) -> u64
     requires days { 0 < length days.old }
     requires apart { IsApartAt (slot nodes.old) }
+    requires parted { IsParted nodes.old days.old None }
     ensures width { 0 < result }
     ensures linked { IsCalendar result nodes.new days.new }
     ensures same { SameNodes nodes.old nodes.new }
 {
     let mut width = first;
+    let mut list = None;
     while width > 1 {
-        clear(days);
-        if relink(nodes, days, width, most) {
+        list = gather(nodes, days, list);
+        list = relink(nodes, days, width, most, list);
+        if list.is_none() {
             return width;
         }
         width /= CHANGE;
     }
-    clear(days);
-    relink(nodes, days, 1, None);
+    list = gather(nodes, days, list);
+    relink(nodes, days, 1, None, list);
     1
 }
 
@@ -120,6 +130,7 @@ fn respread<T>(
 )
     requires days { 0 < length days.old.items }
     requires apart { IsApartAt (slot nodes.old.items) }
+    requires parted { IsParted nodes.old.items days.old.items None }
     ensures width { 0 < width.new }
     ensures days { length days.new.items ≡ length days.old.items }
     ensures linked { IsCalendar width.new nodes.new.items days.new.items }
@@ -155,11 +166,11 @@ pub(crate) fn widen<T>(
     ensures same { SameNodes nodes.old.items nodes.new.items }
     ensures capacity { vec_capacity nodes.new ≡ vec_capacity nodes.old }
 {
-    if count / 2 <= days.len() {
+    if count.saturating_sub(days.len()) <= days.len() {
         return;
     }
     let more = days.len().saturating_mul(2);
-    if empty_table(days, more).is_ok() {
+    if grow(days, more).is_ok() {
         let first = width_for(nodes, count);
         let most = many_steps(nodes, days);
         respread(nodes, days, width, first, Some(most));
@@ -198,7 +209,8 @@ pub(crate) fn balance<T>(
     }
 }
 
-/// Takes the item out of the node `at`, and puts the node in front of the list of free ones.
+/// Takes the item out of the node `at`, and puts the node in front of the list of free ones. This is
+/// `release` for a vector, whose capacity it keeps.
 pub(crate) fn release_item<T>(
     nodes: &mut Vec<Node<T>>,
     free: &mut Option<usize>,
@@ -212,7 +224,8 @@ pub(crate) fn release_item<T>(
     release(nodes, free, at)
 }
 
-/// Lets the chain of the day `day` begin with `next`, the node behind its first one.
+/// Lets the chain of the day `day` begin with `next`, the node behind its first one. This is
+/// `drop_first` for a vector.
 pub(crate) fn drop_first_of(days: &mut Vec<Day>, day: usize, next: Option<usize>)
     requires { day < length days.old.items }
     ensures { SetsDay days.old.items days.new.items day next (last_left next (last_at days.old.items day)) }
