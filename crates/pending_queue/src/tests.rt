@@ -230,3 +230,75 @@ fn has_the_room_that_was_made(rt: HostRuntime) -> Result<(), AllocError> {
     }
     Ok(())
 }
+
+// How many days the table has after so many items were put in.
+fn days_after(alloc: Global, count: u32) -> usize {
+    let mut queue = Pending::new(alloc);
+    for channel in 0..count {
+        put_in(&mut queue, u64::from(channel), 0, channel);
+    }
+    queue.day_count()
+}
+
+// The table is doubled by the first item that makes more than twice as many as there are days.
+#[test]
+fn doubles_the_table(rt: HostRuntime) {
+    for (count, days) in [
+        (1, 16),
+        (32, 16),
+        (33, 32),
+        (64, 32),
+        (65, 64),
+        (128, 64),
+        (129, 128),
+    ] {
+        assert!(rt; days_after(rt.alloc(), count) == days, "{count}");
+    }
+}
+
+// Takes an item, and says whether there was one.
+fn takes_one(queue: &mut Pending<Token>, channel: u32) -> bool
+    requires { (other : TokenValue) → Among other queue.old.items → other.key.channel < channel }
+    ensures { (other : TokenValue) → Among other queue.new.items → other.key.channel < channel + 1 }
+{
+    let taken = queue.take_least();
+    taken.is_some()
+}
+
+// The time of all items of the burst.
+const BURST: u64 = 1_000_000_000_000;
+
+// First 16,000 items come at random times, then they go, and then 33,000 come at one time.
+fn goes_to_a_burst(queue: &mut Pending<Token>, random: &mut Pcg32, channel: u32) -> bool
+    requires { (other : TokenValue) → Among other queue.old.items → other.key.channel < channel }
+    ensures { (other : TokenValue) → Among other queue.new.items → other.key.channel < channel + 1 }
+{
+    if channel < 16_000 {
+        put_in(queue, u64::from(random.next_word()), 0, channel)
+    } else if channel < 32_000 {
+        takes_one(queue, channel)
+    } else {
+        put_in(queue, BURST, 0, channel)
+    }
+}
+
+// Whether the items of the burst come out in the order of their channels.
+fn hands_out_burst(alloc: Global) -> bool {
+    let mut random = Pcg32::seed_from_u64(12);
+    let mut queue: Pending<Token> = Pending::new(alloc);
+    let mut all = true;
+    for channel in 0..65_000_u32 {
+        all &= goes_to_a_burst(&mut queue, &mut random, channel);
+    }
+    for channel in 32_000..65_000_u32 {
+        all &= queue.take_least() == Some(token_at(BURST, 0, channel));
+    }
+    all & queue.least().is_none()
+}
+
+// The free nodes are in random order when the burst comes, and its items in the order of their keys.
+// Walks along the chain would take more than a hundred million steps when the table is doubled.
+#[test]
+fn hands_out_a_burst(rt: HostRuntime) {
+    assert!(rt; hands_out_burst(rt.alloc()));
+}
