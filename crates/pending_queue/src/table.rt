@@ -16,7 +16,7 @@ const NO_NODES: Day = Day {
 };
 
 /// How many steps for each node and each day are many.
-const MANY: u64 = 8;
+const MANY: u64 = 2;
 
 /// How many steps of each kind a call may take, on the average.
 const FEW: u64 = 2;
