@@ -46,11 +46,11 @@ module _ {X E : Type 0} (m : Machine X E) (until : ℕ) (kept : Key → Bool) (w
     | inr s ↦ let by = s.written in elim (rounded.parented (after m until kept w s.at).state by.by e (all_fine s.at by.by by.is) by.among) [
       | inl later ↦ absurd (omega (arith, later.0))
       | inr next ↦ let below : (m.key by.by).round ≡ r = omega (arith, next.0) in
-          (s.at, by.by, record { is = by.is; earlier = s.before; time = sym next.1; at_round = below; link = next.2 }, rounds_by r s.at by.by by.is below)
+          (s.at, by.by, record { is = by.is; earlier = s.before; written = by.among; time = sym next.1; at_round = below; link = next.2 }, rounds_by r s.at by.by by.is below)
     ]
   ]
 
-  -- before an event of round k stand k events at its time, each joined to the next
+  -- before an event of round k stand k events at its time, each of which wrote the next
   pub rounds : (n : ℕ) (e : E) → event m until kept w n ≡ Some e → Chain m until kept w joined n e (m.key e).round
   rounds n e h = rounds_by (m.key e).round n e h refl
 

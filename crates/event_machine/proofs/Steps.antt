@@ -137,6 +137,12 @@ module _ {X E : Type 0} (m : Machine X E) (until : ℕ) (kept : Key → Bool) wh
     pub over_later : (k n : ℕ) → event m until kept w n ≡ None → event m until kept w (k + n) ≡ None
     over_later k n h = ap (λ (v : World X E). due m.key until v.pending) (over_after k n h) ∙ h
 
+    pub ended_after : (n k : ℕ) → n ≤ k → event m until kept w n ≡ None → after m until kept w k ≡ after m until kept w n
+    ended_after n k g h = let d = difference n k g in subst (λ j. after m until kept w j ≡ after m until kept w n) (sym d.1) (over_after d.0 n h)
+
+    pub ended_later : (n k : ℕ) → n ≤ k → event m until kept w n ≡ None → event m until kept w k ≡ None
+    ended_later n k g h = ap (λ (v : World X E). due m.key until v.pending) (ended_after n k g h) ∙ h
+
     -- each event has a number below the end
     pub before_end : (n k : ℕ) (e : E) → event m until kept w n ≡ None → event m until kept w k ≡ Some e → k < n
     before_end n k e h f = elim (lt_or_ge k n) [

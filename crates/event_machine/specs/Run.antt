@@ -36,15 +36,18 @@ Arises m until kept w x = Among x w.pending ⊎ ((k : ℕ) × WrittenAt m until 
 abbrev pub NoneBetween : {X E : Type 0} → Machine X E → ℕ → (Key → Bool) → World X E → (E → Bool) → ℕ → ℕ → Type 0
 NoneBetween {X} {E} m until kept w mine n k = (j : ℕ) (e : E) → n ≤ j → j < k → event m until kept w j ≡ Some e → mine e ≡ false
 
--- event number n is executed before e at one time with it, in round `round`, and is joined to it
+-- p is event number n, writes e, and is executed before e, which is event number k: at one time with it, in round
+-- `round`, and joined to it
 pub record IsLink {X E : Type 0} (m : Machine X E) (until : ℕ) (kept : Key → Bool) (w : World X E) (joined : E → E → Type 0) (round : ℕ) (n : ℕ) (p : E) (k : ℕ) (e : E) : Type 0 where
   pub is : event m until kept w n ≡ Some p
   pub earlier : n < k
+  pub written : Among e (m.writes (after m until kept w n).state p)
   pub time : (m.key p).time ≡ (m.key e).time
   pub at_round : (m.key p).round ≡ round
   pub link : joined p e
 
--- before event number n, which is e, stand as many events as `rounds` says, one of each lower round, each joined to the next
+-- before event number n, which is e, stand as many events as `rounds` says, one of each lower round, each of which wrote
+-- the next and is joined to it
 abbrev pub Chain : {X E : Type 0} → Machine X E → ℕ → (Key → Bool) → World X E → (E → E → Type 0) → ℕ → E → ℕ → Type 0
 Chain m until kept w joined n e zero = Unit {0}
 Chain {X} {E} m until kept w joined n e (suc rounds) =

@@ -49,6 +49,14 @@ pub fn pending_is_executed<X, E>()
         → Among e (after m until kept w n).pending → (m.key e).time ≤ until → ExecutedWithin m until kept w n end e }
 {}
 
+/// A run that has no event of some number has none of a later number, and nothing changes any more.
+pub fn ended_runs_stay_ended<X, E>()
+    ensures over { (m : Machine X E) (until : ℕ) (kept : KeyValue → Bool) (w : World X E)
+        → (n k : ℕ) → n ≤ k → IsOver m until kept w n → IsOver m until kept w k }
+    ensures same { (m : Machine X E) (until : ℕ) (kept : KeyValue → Bool) (w : World X E)
+        → (n k : ℕ) → n ≤ k → IsOver m until kept w n → after m until kept w k ≡ after m until kept w n }
+{}
+
 /// The state of a group after some events is what the group's own events among them, one after
 /// another, make of the opening.
 pub fn group_state_is_own<X, E>()
@@ -58,8 +66,8 @@ pub fn group_state_is_own<X, E>()
         → (n : ℕ) → same (after m until kept w n).state (acted m w.state (share m until kept w mine n)) ≡ true }
 {}
 
-/// Before an event of round k stand k events at its time, one of each lower round, each joined to
-/// the next.
+/// Before an event of round k stand k events at its time, one of each lower round, each of which
+/// wrote the next and is joined to it.
 pub fn rounds_are_chained<X, E>()
     ensures { (m : Machine X E) (until : ℕ) (kept : KeyValue → Bool) (w : World X E) (fine : X → E → Bool) (joined : E → E → Bool)
         → HasRounds m (λ x e. fine x e ≡ true) (λ e d. joined e d ≡ true)
