@@ -18,10 +18,15 @@ pub trait Behaviour: Drop {
     /// What a message carries.
     type Payload: Copy + Send;
 
+    /// What an action makes of the state, waits for, writes and tells, by the state, the process, the
+    /// time and what wakes it.
     ghost reaction: { Self → Reaction Self.State Self.Payload };
 
+    /// Which states are valid for an entity with these in-channels and out-channels, these processes,
+    /// `true` where one is timed, and these waits of theirs.
     ghost valid: { Self → Self.State → List ℕ → List ℕ → List Bool → List WaitValue → Type 0 };
 
+    /// What messages may carry.
     ghost carried: { Self → Self.Payload → Type 0 };
 
     /// The action of process number `process` at the time `now`, in ticks, when `wake` wakes it:
@@ -58,7 +63,10 @@ pub trait Behaviour: Drop {
     ) -> bool
         ensures { IsTrue result ↔ valid self.now state.now ins.now outs.now (map is_timed processes.now) waits.now };
 
+    /// From a valid state an action leads to valid states, writes on its entity's own channels what
+    /// messages may carry, and waits on its entity's own in-channels, as long as the process may.
     ghost sound: { (b : Self) → KeepsValid (valid b) (carried b) (reaction b) };
 
+    /// In a valid state one event writes at most `MostWrites` times on one out-channel.
     ghost modest: { (b : Self) → IsModest (valid b) (carried b) (reaction b) };
 }

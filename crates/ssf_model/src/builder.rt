@@ -48,9 +48,13 @@ impl From<Memory> for BuildFault {
 /// An entity that is being made: its state, which of its processes are timed, and its channels.
 #[derive(Drop)]
 pub struct DraftEntity<S> {
+    /// Its state at the opening.
     pub state: S,
+    /// Of each process, in their order, whether it has a timer channel.
     pub timed: ListOf<bool>,
+    /// The numbers of its in-channels, in the order in which they were made.
     pub in_channels: ListOf<u32>,
+    /// The numbers of its out-channels, in the order in which they were made.
     pub out_channels: ListOf<u32>,
 }
 

@@ -29,7 +29,7 @@ impl<B: Behaviour> Entity<B> {
     /// process that waits on its in-channel, in their order. At each action the process's ticket
     /// rises by one and its answer becomes its wait. `out` gets the writes and lines of the actions,
     /// and the write on the timer channel of each process whose new wait ends by itself. After
-    /// `Memory` nothing is said of the entity.
+    /// `Memory` nothing is said of the entity, nor of `out`.
     pub fn deliver(
         &mut self,
         alloc: Global,

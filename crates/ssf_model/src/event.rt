@@ -9,8 +9,11 @@ use sim_base::{ListOf, Reason, TcpState, Text};
 /// An event: its key, the entity at which it happens, and what it brings.
 #[derive(Clone, Copy, Debug)]
 pub struct Event<P> {
+    /// Its place in the order of all events.
     pub key: Key,
+    /// The entity's number in its plan.
     pub entity: u32,
+    /// A start, the end of a wait, or a message.
     pub kind: Kind<P>,
 }
 
@@ -25,32 +28,34 @@ impl<P> Keyed for Event<P> {
 /// What an action tells of itself: a line of the trace after its event's own.
 #[derive(Clone, Copy, Debug, PartialEq, Eq)]
 pub enum Line {
-    /// A packet of `bytes` bytes left by the interface with the id `interface` for the next hop.
+    /// The interface with the id `interface` accepted a packet of `bytes` bytes for the next hop,
+    /// whose IPv4 address is `next`. `tcp` says that it is a TCP packet, and else it is a UDP one.
     Sent {
         interface: u32,
         next: u32,
         tcp: bool,
         bytes: u64,
     },
-    /// A packet was dropped.
+    /// A TCP or UDP packet of `bytes` bytes was dropped.
     Dropped {
         reason: Reason,
         tcp: bool,
         bytes: u64,
     },
-    /// A datagram reached its port.
+    /// A datagram with `bytes` bytes of data reached the UDP port `port`.
     Udp {
         port: u16,
         bytes: u64,
     },
-    /// The session of `port` with the peer entered a state.
+    /// The TCP session of the own port `port` with the peer's IPv4 address and port entered a state.
     Entered {
         port: u16,
         peer: u32,
         peer_port: u16,
         state: TcpState,
     },
-    /// A session handed data to its application.
+    /// The TCP session of the own port `port` with the peer's IPv4 address and port handed `bytes`
+    /// bytes to its application, in order.
     Delivered {
         port: u16,
         peer: u32,
@@ -87,6 +92,7 @@ pub struct Parcel<P> {
 /// The printed name of each entity.
 #[derive(Drop)]
 pub struct Names {
+    /// In the order of the entities' numbers.
     pub names: ListOf<Text>,
 }
 

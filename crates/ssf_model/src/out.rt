@@ -64,7 +64,7 @@ impl<P: Copy> Out<P> {
     }
 
     /// Adds a write of either kind. Without memory nothing is added.
-    pub fn push(&mut self, written: Written<P>) -> Result<(), Memory>
+    pub(crate) fn push(&mut self, written: Written<P>) -> Result<(), Memory>
         ensures written { OnOk result (self.new ≡ record self.old { writes = self.old.writes ++ written ∷ [] }) }
         ensures kept { OnErr result (self.new ≡ self.old) }
     {
