@@ -7,6 +7,7 @@ use Rattle.event_order.proofs.Order.{child_cases}
 use Rattle.event_machine.specs.Machine.{World, option_list, due, after, event, within, all_kept}
 use Rattle.event_machine.specs.Laws.{HasRounds}
 use Rattle.event_machine.proofs.Rounds.{cut_same}
+use Rattle.event_machine.proofs.Steps.{ended_later}
 use Rattle.ssf_model.specs.declared.event.Event.{Event}
 use Rattle.ssf_model.specs.declared.event.Entry.{Entry}
 use Rattle.ssf_model.specs.declared.entity.Entity.{Entity}
@@ -16,6 +17,8 @@ use Rattle.ssf_model.specs.Reaction.{Reaction}
 use Rattle.ssf_model.specs.Channels.{sent_by}
 use Rattle.ssf_model.specs.Run.{States, writes_at, machine_of, opening, run_event}
 use Rattle.ssf_model.specs.Run.{entry_at, entries_from, run_entries}
+use Rattle.global_list.specs.declared.single.SingleEnd.{SingleEnd}
+use Rattle.global_list.specs.declared.single.SingleEnd.TheVariants.{Finished, OverBudget, Memory}
 use Rattle.global_list.proofs.Sends.{numbered_from}
 
 abbrev Rounded : {E : Type 0} → (E → Key) → E → E → Type 0
@@ -53,6 +56,10 @@ module _ {B S P : Type 0} (r : Reaction S P) (ms : List Mapping) where
         ∙ ap (λ (xs : List Entry). xs ++ option_list (option_map (entry_at r (after (machine_of r ms) until all_kept w n).state.entities) (event (machine_of r ms) until all_kept w n)))
         (cut_entries R n (omega arith))
 
+none_is : {T : Type 0} (o : Option T) → o ≡ None → IsSome o → ⊥
+none_is None e some = cc
+none_is (Some x) e some = cc
+
 -- ---- the answers of the list, for every cut that drops no round up to the budget
 
 module _ {B S P : Type 0} (r : Reaction S P) (plan : Plan B S P) (until budget : ℕ) (first : (d : Event P) → Among d plan.events → d.key.round ≡ 0) where
@@ -68,3 +75,16 @@ module _ {B S P : Type 0} (r : Reaction S P) (plan : Plan B S P) (until budget :
 
   pub over_cut : IsSome (run_event r plan until all_kept budget) → (R : ℕ) → budget ≤ R → IsSome (run_event r plan until (within R) budget)
   over_cut h R l = subst (λ (o : Option (Event P)). IsSome o) (sym (cut_event r plan.mappings until (opening plan) first R budget l)) h
+
+  -- a list that ended because no event is left is not that of a run of more than `budget` events
+  pub exceeded_cut : (xs : List Entry) → run_event r plan until all_kept (length xs) ≡ None → length xs ≤ budget →
+      (R : ℕ) → budget ≤ R → IsSome (run_event r plan until (within R) budget) → ⊥
+  exceeded_cut xs h most R l more =
+      let none : run_event r plan until (within R) budget ≡ None =
+      cut_event r plan.mappings until (opening plan) first R budget l ∙ ended_later (machine_of {B = B} r plan.mappings) until all_kept (opening plan) (length xs) budget most h in
+      none_is (run_event r plan until (within R) budget) none more
+
+pub other_ends : (end : SingleEnd) → (end ≡ Finished → ⊥) → (end ≡ OverBudget) ⊎ (end ≡ Memory)
+other_ends Finished others = absurd (others refl)
+other_ends OverBudget others = inl refl
+other_ends Memory others = inr refl

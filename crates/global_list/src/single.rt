@@ -1,6 +1,6 @@
 //! The run of a plan by one event list.
 
-ghost use Rattle.std.specs.Prelude.{◌≡◌, ◌≤◌, ℕ, [], length, IsSome, None};
+ghost use Rattle.std.specs.Prelude.{◌≡◌, ◌≤◌, ◌⊎◌, ℕ, [], length, IsSome, None};
 ghost use Rattle.event_machine.specs.Machine.{within, all_kept};
 ghost use Rattle.ssf_model.specs.Reaction.{LatestTime};
 ghost use Rattle.ssf_model.specs.Run.{run_event};
@@ -36,7 +36,8 @@ pub struct Single {
 ///
 /// `until` is at most 10^18, and `budget` from 1 to 10^12. The entries are the first of the plan's
 /// run, whatever its cut, as long as the cut drops no round up to `budget`. `Finished` says that
-/// they are all of it, and `OverBudget` that there are `budget` of them and the run goes on.
+/// they are all of it, and `OverBudget` that there are `budget` of them and the run goes on. A run
+/// of more than `budget` events ends so, or for want of memory.
 pub fn run_single<B: Behaviour>(alloc: Global, plan: Plan<B>, until: u64, budget: u64) -> Single
     requires plan { IsRunnable (B.valid plan.behaviour) (B.carried plan.behaviour) plan }
     requires until { until ≤ LatestTime }
@@ -46,6 +47,7 @@ pub fn run_single<B: Behaviour>(alloc: Global, plan: Plan<B>, until: u64, budget
     ensures most { length result.entries ≤ budget }
     ensures finished { result.end ≡ SingleEnd.Finished → (R : ℕ) → budget ≤ R → run_event (B.reaction plan.behaviour) plan until (within R) (length result.entries) ≡ None }
     ensures over { result.end ≡ SingleEnd.OverBudget → (length result.entries ≡ budget) × ((R : ℕ) → budget ≤ R → IsSome (run_event (B.reaction plan.behaviour) plan until (within R) budget)) }
+    ensures exceeded { (R : ℕ) → budget ≤ R → IsSome (run_event (B.reaction plan.behaviour) plan until (within R) budget) → (result.end ≡ SingleEnd.OverBudget) ⊎ (result.end ≡ SingleEnd.Memory) }
 {
     let mut entries = Vec::new(alloc);
     let end = run(alloc, plan, until, budget, &mut entries);

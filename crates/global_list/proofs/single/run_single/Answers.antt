@@ -1,5 +1,5 @@
 use Rattle.std.proofs.Common.{◌∙◌, length, ap}
-use Rattle.global_list.proofs.Cuts.{prefix_cut, finished_cut, over_cut}
+use Rattle.global_list.proofs.Cuts.{prefix_cut, finished_cut, over_cut, exceeded_cut, other_ends}
 use Rattle.global_list.proofs.Healths.{first_round}
 use Rattle.global_list.proofs.single.run_single.Goals as goal
 
@@ -21,3 +21,9 @@ returns-clause-over g c = λ e.
       ap length c.from_vec.ensures ∙ (c.run-end.ensures.over e).0,
       over_cut (g.B.Behaviour.reaction plan.behaviour) plan c.args.until c.args.budget (first_round _ _ plan c.requires.plan) (c.run-end.ensures.over e).1,
     )
+
+pub returns-clause-exceeded : goal.returns-clause-exceeded
+returns-clause-exceeded g c = λ R l more.
+    let plan = c.args.plan in
+    other_ends _ (λ e. exceeded_cut (g.B.Behaviour.reaction plan.behaviour) plan c.args.until c.args.budget (first_round _ _ plan c.requires.plan) c.run-end.new.entries.items
+    (c.run-end.ensures.finished e) c.run-end.ensures.most R l more)
