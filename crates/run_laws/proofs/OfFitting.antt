@@ -1,20 +1,21 @@
 -- The laws of plans that fit.
-use Rattle.std.proofs.Common.{◌≡◌, ℕ, ◌+◌, ◌<◌, ◌≤◌, Bool, true, length, refl, sym, ap, ◌∙◌, subst, inl, inr, arith, Some, slice_get, eqb-true, eq-eqb}
+use Rattle.std.proofs.Common.{◌≡◌, ℕ, zero, suc, ◌+◌, ◌<◌, ◌≤◌, Bool, true, List, ◌++◌, length, refl, sym, ap, ◌∙◌, subst, inl, inr, arith, Some, option_map, slice_get, eqb-true, eq-eqb}
 use Rattle.event_order.specs.declared.key.Key.{Key}
 use Rattle.event_order.specs.Pending.{Among}
-use Rattle.event_machine.specs.Machine.{within, all_kept}
+use Rattle.event_machine.specs.Machine.{World, option_list, due, after, event, within, all_kept}
 use Rattle.event_machine.specs.Run.{Chain}
 use Rattle.event_machine.specs.Laws.{HasRounds}
 use Rattle.event_machine.proofs.Rounds.{rounds}
 use Rattle.event_machine.proofs.Steps.{le_test}
 use Rattle.ssf_model.specs.declared.out.Written.TheVariants.{Channel, Timer as TimerWrite}
 use Rattle.ssf_model.specs.declared.event.Event.{Event}
+use Rattle.ssf_model.specs.declared.event.Entry.{Entry}
 use Rattle.ssf_model.specs.declared.plan.Mapping.{Mapping}
 use Rattle.ssf_model.specs.declared.plan.Plan.{Plan}
 use Rattle.ssf_model.specs.Reaction.{Reaction, Validity, KeepsValid, LatestTime}
 use Rattle.ssf_model.specs.Deliver.{IsModest}
 use Rattle.ssf_model.specs.Channels.{Sent, delivered_to, sent_by}
-use Rattle.ssf_model.specs.Run.{States, writes_at, machine_of, opening, world_after, run_event, run_events, Fits}
+use Rattle.ssf_model.specs.Run.{States, writes_at, machine_of, opening, world_after, run_event, run_events, entry_at, entries_from, run_entries, Fits}
 use Rattle.ssf_model.specs.Truth.{is_on_line, line_events}
 use Rattle.global_list.specs.Healthy.{IsRunnable}
 use Rattle.global_list.proofs.Delivers.{IsOnOwn}
@@ -24,7 +25,18 @@ use Rattle.run_laws.specs.Joined.{IsPassedOn, IsAligned}
 use Rattle.run_laws.proofs.Lawful.{writes_rounded, rounds_opened}
 use Rattle.run_laws.proofs.Opens.{fits_open}
 use Rattle.run_laws.proofs.Along.{sent_from, stands, leads_from}
-use Rattle.run_laws.proofs.Shares.{same_events}
+use Rattle.run_laws.proofs.Shares.{same_after, same_events}
+
+-- where two cuts lead through the same worlds, the entries are the same
+same_told : {B S P : Type 0} (r : Reaction S P) (ms : List Mapping) (until : ℕ) (w : World (States B S P) (Event P)) (kept other : Key → Bool) →
+    ((n : ℕ) → after (machine_of r ms) until kept w n ≡ after (machine_of r ms) until other w n) →
+    (n : ℕ) → entries_from r ms until kept w n ≡ entries_from r ms until other w n
+same_told r ms until w kept other h zero = refl
+same_told {B} {S} {P} r ms until w kept other h (suc n) =
+    ap (λ (v : World (States B S P) (Event P)). entries_from r ms until kept w n
+    ++ option_list (option_map (entry_at r v.state.entities) (due (machine_of {B = B} r ms).key until v.pending))) (h n)
+    ∙ ap (λ (xs : List Entry). xs ++ option_list (option_map (entry_at r (after (machine_of r ms) until other w n).state.entities) (event (machine_of r ms) until other w n)))
+    (same_told r ms until w kept other h n)
 
 module _ {B S P : Type 0} (r : Reaction S P) (valid : Validity S) (carried : P → Type 0) (law : KeepsValid valid carried r) (modest : IsModest valid carried r)
     (plan : Plan B S P) (until : ℕ) (in_time : until ≤ LatestTime) (fits : Fits valid carried plan) where
@@ -111,3 +123,20 @@ module _ {B S P : Type 0} (r : Reaction S P) (valid : Validity S) (carried : P �
     pub list_is_not_cut : (R most : ℕ) → most ≤ R → ((i n : ℕ) → length (line_events r plan until all_kept line i n) ≤ most) →
         (n : ℕ) → run_events r plan until (within R) n ≡ run_events r plan until all_kept n
     list_is_not_cut R most enough few n = sym (same_lines all_kept (within R) most few (λ k low. sym (le_test k.round R (omega arith))) n)
+
+    same_worlds : (kept other : Key → Bool) (most : ℕ) → ((i n : ℕ) → length (line_events r plan until kept line i n) ≤ most) →
+        ((k : Key) → k.round ≤ most → kept k ≡ other k) → (n : ℕ) → world_after r plan until kept n ≡ world_after r plan until other n
+    unfolding machine_of
+    same_worlds kept other most few both n =
+        same_after (machine_of {B = B} r plan.mappings) until kept (opening plan) Passes (IsPassedOn r plan) fitting_rounds (passes kept)
+        (rounds_opened r plan (fits_open valid carried plan fits)) (is_on_line line) (λ e. line e.entity) on_own stays_on most few other both n
+
+    pub cut_keeps_entries : (R most : ℕ) → most ≤ R → ((i n : ℕ) → length (line_events r plan until (within R) line i n) ≤ most) →
+        (n : ℕ) → run_entries r plan until (within R) n ≡ run_entries r plan until all_kept n
+    cut_keeps_entries R most enough few n =
+        same_told r plan.mappings until (opening plan) (within R) all_kept (same_worlds (within R) all_kept most few (λ k low. le_test k.round R (omega arith))) n
+
+    pub list_keeps_entries : (R most : ℕ) → most ≤ R → ((i n : ℕ) → length (line_events r plan until all_kept line i n) ≤ most) →
+        (n : ℕ) → run_entries r plan until (within R) n ≡ run_entries r plan until all_kept n
+    list_keeps_entries R most enough few n =
+        sym (same_told r plan.mappings until (opening plan) all_kept (within R) (same_worlds all_kept (within R) most few (λ k low. sym (le_test k.round R (omega arith)))) n)

@@ -5,14 +5,15 @@ use Rattle.event_order.specs.Order.{IsBefore}
 use Rattle.event_order.specs.Pending.{Among, IsRising}
 use Rattle.event_machine.specs.Machine.{within, all_kept}
 use Rattle.event_machine.specs.Run.{WrittenBefore, ExecutedWithin, Arises, Chain}
-use Rattle.event_machine.proofs.Steps.{event_arises}
+use Rattle.event_machine.proofs.Steps.{event_arises, ended_later, ended_after}
 use Rattle.event_machine.proofs.Keys.{keys_rise, pending_rises, one_key, pending_executed}
 use Rattle.event_machine.proofs.Rounds.{rounds, first_events_same}
 use Rattle.event_machine.proofs.Finite.{finite}
 use Rattle.ssf_model.specs.declared.event.Event.{Event}
 use Rattle.ssf_model.specs.declared.plan.Plan.{Plan}
 use Rattle.ssf_model.specs.Reaction.{Reaction}
-use Rattle.ssf_model.specs.Run.{machine_of, opening, run_event, run_events, world_after}
+use Rattle.ssf_model.specs.Run.{machine_of, opening, run_event, run_events, run_entries, world_after}
+use Rattle.global_list.proofs.Cuts.{cut_entries}
 use Rattle.run_laws.specs.Openings.{OpensInOrder}
 use Rattle.run_laws.specs.Joined.{IsWriteOf}
 use Rattle.run_laws.proofs.Lawful.{known, fine, lawful, has_rounds, opened, rounds_opened}
@@ -56,6 +57,17 @@ module _ {B S P : Type 0} (r : Reaction S P) (plan : Plan B S P) (until : ℕ) (
       first_events_same (machine_of {B = B} r plan.mappings) until (opening plan) (fine r plan.mappings) (IsWriteOf B r plan.mappings) (has_rounds r plan.mappings)
       (λ k d q. tt) (rounds_opened r plan opens) R n (omega arith)
 
+  pub plan_cut_entries : (R n : ℕ) → n ≤ R + 1 → run_entries r plan until (within R) n ≡ run_entries r plan until all_kept n
+  unfolding machine_of
+  plan_cut_entries R n h = cut_entries r plan.mappings until (opening plan) (rounds_opened r plan opens) R n (omega arith)
+
 pub plan_events_arise : {B S P : Type 0} (r : Reaction S P) (plan : Plan B S P) (until : ℕ) (kept : Key → Bool) (n : ℕ) (e : Event P) → run_event r plan until kept n ≡ Some e →
     Among e plan.events ⊎ WrittenBefore (machine_of {B = B} r plan.mappings) until kept (opening plan) n e
 plan_events_arise {B = B} r plan until kept n e h = event_arises (machine_of {B = B} r plan.mappings) until kept (opening plan) n e h
+
+module _ {B S P : Type 0} (r : Reaction S P) (plan : Plan B S P) (until : ℕ) (kept : Key → Bool) (n k : ℕ) (later : n ≤ k) where
+  pub plan_ended_later : run_event r plan until kept n ≡ None → run_event r plan until kept k ≡ None
+  plan_ended_later h = ended_later (machine_of {B = B} r plan.mappings) until kept (opening plan) n k later h
+
+  pub plan_ended_after : run_event r plan until kept n ≡ None → world_after r plan until kept k ≡ world_after r plan until kept n
+  plan_ended_after h = ended_after (machine_of {B = B} r plan.mappings) until kept (opening plan) n k later h

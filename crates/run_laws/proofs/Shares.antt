@@ -73,7 +73,7 @@ module _ {X E : Type 0} (m : Machine X E) (until : ℕ) (kept : Key → Bool) (w
         ]
 
     module _ (other : Key → Bool) (both : (k : Key) → k.round ≤ most → kept k ≡ other k) where
-      same_after : (n : ℕ) → after m until kept w n ≡ after m until other w n
+      pub same_after : (n : ℕ) → after m until kept w n ≡ after m until other w n
       same_after n = same_cut m until w kept other n (λ k e b l h a. both (m.key b) (written_low k e b h a))
 
       -- two cuts that keep the low rounds make no difference

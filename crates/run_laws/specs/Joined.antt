@@ -16,7 +16,7 @@ abbrev pub IsWriteOf : (B : Type 0) {S P : Type 0} → Reaction S P → List Map
 IsWriteOf B {S} {P} r mappings e d = (x : States B S P) × Among d ((machine_of r mappings).writes x e)
 
 -- the second event is a message that the first writes without delay, on a mapping of the plan without delay that leads
--- from the entity of the first to that of the second. `writer` is the entity of the first when it wrote
+-- from the entity of the first to that of the second. `writer` is some entity at which the first event writes so
 pub record IsPassedOn {B S P : Type 0} (r : Reaction S P) (plan : Plan B S P) (e d : Event P) : Type 0 where
   pub mapping : Mapping
   pub payload : P

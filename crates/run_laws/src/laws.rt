@@ -12,7 +12,7 @@ ghost use Rattle.ssf_model.specs.declared.event.Event.{Event};
 ghost use Rattle.ssf_model.specs.declared.plan.Plan.{Plan};
 ghost use Rattle.ssf_model.specs.Reaction.{LatestTime};
 ghost use Rattle.ssf_model.specs.Truth.{line_events};
-ghost use Rattle.ssf_model.specs.Run.{Fits, machine_of, opening, run_event, run_events, world_after};
+ghost use Rattle.ssf_model.specs.Run.{Fits, machine_of, opening, run_event, run_events, run_entries, world_after};
 ghost use Rattle.ssf_model.specs.Drafts.{Draft, planned};
 ghost use Rattle.run_laws.specs.Joined.{IsWriteOf, IsPassedOn, IsAligned};
 ghost use Rattle.run_laws.specs.Groups.{IsSameGroup, is_own};
@@ -65,6 +65,14 @@ pub fn pending_is_executed<B: Behaviour>()
         → ExecutedWithin (machine_of (B.reaction b) plan.mappings) until kept (opening plan) n end e }
 {}
 
+/// A run that has no event of some number has none of a later number, and nothing changes any more.
+pub fn ended_runs_stay_ended<B: Behaviour>()
+    ensures over { (b : B) (plan : Plan B B.State B.Payload) (until : ℕ) (kept : KeyValue → Bool) (n k : ℕ) → n ≤ k
+        → run_event (B.reaction b) plan until kept n ≡ None → run_event (B.reaction b) plan until kept k ≡ None }
+    ensures same { (b : B) (plan : Plan B B.State B.Payload) (until : ℕ) (kept : KeyValue → Bool) (n k : ℕ) → n ≤ k
+        → run_event (B.reaction b) plan until kept n ≡ None → world_after (B.reaction b) plan until kept k ≡ world_after (B.reaction b) plan until kept n }
+{}
+
 /// The state of a group of entities after some events of the run of a plan that fits, with the counts
 /// of the channels on which the group writes, is what the group's own events among them, one after
 /// another, make of the opening.
@@ -98,16 +106,18 @@ pub fn cut_run_ends<B: Behaviour>()
         → (n : ℕ) × (run_event (B.reaction b) plan until (within R) n ≡ None) }
 {}
 
-/// A cut at round R changes none of the first R + 1 events.
+/// A cut at round R changes none of the first R + 1 events, and none of their entries.
 pub fn cut_keeps_first<B: Behaviour>()
-    ensures { (b : B) (plan : Plan B B.State B.Payload) (until R : ℕ) → OpensInOrder plan
+    ensures events { (b : B) (plan : Plan B B.State B.Payload) (until R : ℕ) → OpensInOrder plan
         → (n : ℕ) → n ≤ R + 1 → run_events (B.reaction b) plan until (within R) n ≡ run_events (B.reaction b) plan until all_kept n }
+    ensures entries { (b : B) (plan : Plan B B.State B.Payload) (until R : ℕ) → OpensInOrder plan
+        → (n : ℕ) → n ≤ R + 1 → run_entries (B.reaction b) plan until (within R) n ≡ run_entries (B.reaction b) plan until all_kept n }
 {}
 
 /// Entities are numbered by timelines, and the two ends of each mapping without delay are on one.
 /// Where no timeline has more than `most` events, no cut at a round of at least `most` drops
-/// anything: the events are those of the run that drops nothing. The events are counted in the run
-/// with the cut (`cut`), or in the one without (`whole`).
+/// anything: the events and their entries are those of the run that drops nothing. The events are
+/// counted in the run with the cut (`cut`), or in the one without (`whole`).
 pub fn few_events_are_not_cut<B: Behaviour>()
     ensures cut { (b : B) (plan : Plan B B.State B.Payload) (until : ℕ) (line : ℕ → ℕ) → Fits (B.valid b) (B.carried b) plan → until ≤ LatestTime → IsAligned plan line
         → (R most : ℕ) → most ≤ R → ((i n : ℕ) → length (line_events (B.reaction b) plan until (within R) line i n) ≤ most)
@@ -115,4 +125,10 @@ pub fn few_events_are_not_cut<B: Behaviour>()
     ensures whole { (b : B) (plan : Plan B B.State B.Payload) (until : ℕ) (line : ℕ → ℕ) → Fits (B.valid b) (B.carried b) plan → until ≤ LatestTime → IsAligned plan line
         → (R most : ℕ) → most ≤ R → ((i n : ℕ) → length (line_events (B.reaction b) plan until all_kept line i n) ≤ most)
         → (n : ℕ) → run_events (B.reaction b) plan until (within R) n ≡ run_events (B.reaction b) plan until all_kept n }
+    ensures cut_entries { (b : B) (plan : Plan B B.State B.Payload) (until : ℕ) (line : ℕ → ℕ) → Fits (B.valid b) (B.carried b) plan → until ≤ LatestTime → IsAligned plan line
+        → (R most : ℕ) → most ≤ R → ((i n : ℕ) → length (line_events (B.reaction b) plan until (within R) line i n) ≤ most)
+        → (n : ℕ) → run_entries (B.reaction b) plan until (within R) n ≡ run_entries (B.reaction b) plan until all_kept n }
+    ensures whole_entries { (b : B) (plan : Plan B B.State B.Payload) (until : ℕ) (line : ℕ → ℕ) → Fits (B.valid b) (B.carried b) plan → until ≤ LatestTime → IsAligned plan line
+        → (R most : ℕ) → most ≤ R → ((i n : ℕ) → length (line_events (B.reaction b) plan until all_kept line i n) ≤ most)
+        → (n : ℕ) → run_entries (B.reaction b) plan until (within R) n ≡ run_entries (B.reaction b) plan until all_kept n }
 {}
