@@ -1,6 +1,6 @@
 //! Worked examples.
 
-use crate::rings::ring_plan;
+use crate::rings::{MOST_TOKENS, RingFault, ring_plan};
 use crate::timers::{listener_plan, ticker_plan};
 use global_list::{Single, SingleEnd, run_single};
 use ring_model::Hop;
@@ -40,11 +40,14 @@ fn run_ring(
     hops: &[Hop],
     until: u8,
     budget: u32,
-) -> Result<(Vec<[u64; 5]>, SingleEnd), BuildFault> {
+) -> Result<(Vec<[u64; 5]>, SingleEnd), RingFault> {
     let plan = ring_plan(alloc, nodes, tokens, hops)?;
     let single = run_single(alloc, plan, u64::from(until), u64::from(budget) + 1);
     let end = single.end;
-    Ok((rows(alloc, &single)?, end))
+    match rows(alloc, &single) {
+        Ok(rows) => Ok((rows, end)),
+        Err(Memory) => Err(RingFault::Refused(BuildFault::Memory)),
+    }
 }
 
 // Two nodes with one token: whole until 10 and 8, and less of it until 7 or with a smaller budget.
@@ -145,12 +148,12 @@ fn waits_for_times(rt: HostRuntime) {
 }
 
 // The message at 2 wakes process 0, whose next wait ends at 6: the end of its first wait, at 4, is
-// executed and wakes nobody.
+// executed and wakes nobody. If it woke process 0, there would be an event at 8.
 #[test]
 fn passes_over_outdated_ends_of_waits(rt: HostRuntime) {
     let alloc = rt.alloc();
     let plan = listener_plan(alloc).expect(&rt, "a plan");
-    let single = run_single(alloc, plan, 6, 100);
+    let single = run_single(alloc, plan, 11, 100);
     let rows = rows(alloc, &single).expect(&rt, "memory");
     assert_eq!(rt;
         rows.as_slice(),
@@ -159,7 +162,8 @@ fn passes_over_outdated_ends_of_waits(rt: HostRuntime) {
             [2, 0, 2, 0, 0],
             [2, 1, 3, 0, 0],
             [4, 0, 1, 0, 0],
-            [6, 0, 1, 1, 0]
+            [6, 0, 1, 1, 0],
+            [10, 0, 1, 2, 0]
         ]
         .as_slice()
     );
@@ -172,6 +176,41 @@ fn runs_an_empty_ring(rt: HostRuntime) {
     let (rows, end) = run_ring(rt.alloc(), 0, &[], &[], 10, 99).expect(&rt, "a ring");
     assert!(rt; rows.is_empty());
     assert_eq!(rt; end, SingleEnd::Finished);
+}
+
+/// Why a ring of this many nodes is refused, if it is.
+fn ring_fault(alloc: Global, nodes: u32, tokens: &[u32], hops: &[Hop]) -> Option<RingFault> {
+    match ring_plan(alloc, nodes, tokens, hops) {
+        Ok(_) => None,
+        Err(fault) => Some(fault),
+    }
+}
+
+// Each fault of a ring.
+#[test]
+fn refuses_rings(rt: HostRuntime) {
+    let alloc = rt.alloc();
+    let unknown = Some(RingFault::UnknownNode);
+    assert_eq!(rt; ring_fault(alloc, 1, &[0], &[hop(0, 0, 1, 0)]), None);
+    assert_eq!(rt; ring_fault(alloc, 1, &[0, 1], &[]), unknown);
+    assert_eq!(rt; ring_fault(alloc, 1, &[0], &[hop(1, 0, 1, 0)]), unknown);
+    assert_eq!(rt; ring_fault(alloc, 1, &[0], &[hop(0, 1, 1, 0)]), unknown);
+    assert_eq!(rt;
+        ring_fault(alloc, 1, &[0], &[hop(0, 0, 1_000_000_000_000_001, 0)]),
+        Some(RingFault::Refused(BuildFault::DelayTooLong))
+    );
+    assert_eq!(rt;
+        ring_fault(alloc, 262_145, &[], &[]),
+        Some(RingFault::Refused(BuildFault::TooManyChannels))
+    );
+    let mut tokens = Vec::new(alloc);
+    for _ in 0..MOST_TOKENS + 1 {
+        tokens.push(1_u32).expect(&rt, "memory");
+    }
+    assert_eq!(rt;
+        ring_fault(alloc, 1, tokens.as_slice(), &[]),
+        Some(RingFault::TooManyTokens)
+    );
 }
 
 // A ring of 65,536 nodes, tokens and hops: each token arrives every second tick.
