@@ -3,3 +3,7 @@ pub mod ListKeys
 pub mod Names
 pub mod Readers
 pub mod Reads
+pub mod SeenRows
+pub mod Steps
+pub mod Visits
+pub mod WalkedNets

@@ -4,7 +4,7 @@ ghost use Rattle.std.specs.Prelude.{◌≡◌, ◌⊎◌};
 
 use nhi_address::Nhi;
 use sim_base::{Memory, Text};
-use std::alloc::{AllocFailed, Global};
+use std::alloc::{AllocError, AllocFailed, Global};
 
 /// Why a tree has no model that can run. A text is the key, the kind or the spelling at fault.
 #[derive(Drop)]
@@ -57,6 +57,28 @@ impl<T: Drop> From<AllocFailed<T>> for ShapeFault {
     ghost from_gives = { λ _ e. e ≡ fault.Memory };
 
     fn from(_refused: AllocFailed<T>) -> ShapeFault {
+        ShapeFault::Memory
+    }
+}
+
+impl From<AllocError> for ShapeFault {
+    ghost use Rattle.std.specs.Prelude.{◌≡◌};
+    ghost use Rattle.net_graph.specs.declared.fault.ShapeFault.TheVariants as fault;
+
+    ghost from_gives = { λ _ e. e ≡ fault.Memory };
+
+    fn from(_refused: AllocError) -> ShapeFault {
+        ShapeFault::Memory
+    }
+}
+
+impl<T: Drop> From<(T, Memory)> for ShapeFault {
+    ghost use Rattle.std.specs.Prelude.{◌≡◌};
+    ghost use Rattle.net_graph.specs.declared.fault.ShapeFault.TheVariants as fault;
+
+    ghost from_gives = { λ _ e. e ≡ fault.Memory };
+
+    fn from(_refused: (T, Memory)) -> ShapeFault {
         ShapeFault::Memory
     }
 }

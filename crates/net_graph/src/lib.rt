@@ -1,22 +1,29 @@
 //! From a resolved tree to what a model says: which model a tree has, how its keys are looked up,
-//! how numbers and seconds are read, what the keys of each kind of list of a Net say, and why there
-//! is no model that can run. The rows of a network are declared here too, and tables of names.
+//! how numbers and seconds are read, what the keys of each kind of list of a Net say, what the walk
+//! over the tree of a Net meets, and why there is no model that can run. The rows of a network are
+//! declared here too, and tables of names.
 //!
 //! Contracts cite `specs/Keys.antt` (the values of a key, and which model a tree has),
-//! `specs/Readers.antt` (seconds) and `specs/ListKeys.antt` (the keys of each kind of list, with
-//! their ranges, defaults and order).
+//! `specs/Readers.antt` (seconds), `specs/ListKeys.antt` (the keys of each kind of list, with
+//! their ranges, defaults and order), `specs/Visits.antt` (the walk as one list of visits) and
+//! `specs/WalkedNets.antt` (what the visits make of it: the rows of each kind, or the first fault).
 #![tactic(auto)]
 
+mod adding;
 mod fault;
+mod ids;
 mod keys;
 mod list_keys;
 mod names;
 mod readers;
 mod rows;
+mod seen;
 #[cfg(test)]
 mod tests;
+mod walk;
 
 pub use fault::{ShapeFault, bad_nhi, bad_number, missing, too_many, unknown_session};
+pub use ids::IdPath;
 pub use keys::{first_list, first_value, has_key, is_net, number_in};
 pub use list_keys::{
     GatewayKeys, InterfaceKeys, LinkKeys, ServerKeys, SessionKeys, default_settings, read_client,
@@ -27,3 +34,5 @@ pub use readers::{MOST_DIGITS, MOST_TICKS, read_integer, read_seconds};
 pub use rows::{
     Down, Gateway, HostRow, InterfaceRow, LinkRow, NetRow, Network, SessionKind, SessionRow,
 };
+pub use seen::{HostSeen, LinkSeen, PatternSeen, Seen, ServerSeen, SessionSeen, TrafficSeen};
+pub use walk::walk_over;

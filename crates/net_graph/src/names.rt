@@ -39,6 +39,13 @@ impl Paths {
         self.names.get_index_of(path)
     }
 
+    /// How many paths there are.
+    pub fn len(&self) -> usize
+        ensures { result ≡ length self.now }
+    {
+        self.names.len()
+    }
+
     /// Whether a path is there.
     pub fn has(&self, path: &[u32]) -> bool
         ensures { result ≡ list_any (same path.now) self.now }

@@ -1,9 +1,10 @@
 use crate::{
     Pairs, Paths, SessionKeys, ShapeFault, bad_number, default_settings, first_list, first_value,
     is_net, missing, number_in, read_client, read_frequency, read_gateway, read_ids, read_integer,
-    read_interface, read_link, read_seconds, read_server, read_session,
+    read_interface, read_link, read_seconds, read_server, read_session, walk_over,
 };
 use dml_tree::{Tree, read};
+use nhi_address::{Nhi, print_nhi};
 use std::alloc::Global;
 use std::process::Abort;
 use std::test::Fail;
@@ -449,5 +450,148 @@ fn names_are_numbered_in_the_order_in_which_they_came(rt: HostRuntime) -> Result
     assert_eq!(rt; paths.number_of([7].as_slice()), None);
     assert_eq!(rt; pairs.number_of(1, 9), Some(1));
     assert_eq!(rt; pairs.number_of(9, 1), None);
+    Ok(())
+}
+
+/// What the walk over the Net of a text meets: the counts of each kind, or the fault's name and its
+/// detail.
+fn walk_answer(rt: &(impl Abort + AllocGlobal), text: &[u8]) -> Result<String, Fail> {
+    let alloc = rt.alloc();
+    let tree = read(alloc, 0, text)?;
+    let Some(net) = first_list(&tree, b"Net") else {
+        return Err(Fail::from("no Net"));
+    };
+    match walk_over(alloc, 1_000, net) {
+        Ok(seen) => {
+            let nets = seen.nets.len();
+            let hosts = seen.hosts.len();
+            let interfaces = seen.interfaces.len();
+            let links = seen.links.len();
+            let sessions = seen.sessions.len();
+            let servers = seen.servers;
+            let line = format!(in alloc;
+                "{nets} {hosts} {interfaces} {links} {sessions} {servers}"
+            )?;
+            Ok(line)
+        }
+        Err(ShapeFault::DoubleId(nhi)) => address_text(alloc, "DoubleId ", &nhi),
+        Err(fault) => fault_text(alloc, fault),
+    }
+}
+
+/// A fault's name and the address that it carries.
+fn address_text(alloc: Global, name: &str, nhi: &Nhi) -> Result<String, Fail> {
+    let mut bytes = Vec::new(alloc);
+    if print_nhi(nhi, &mut bytes).is_err() {
+        return Err(Fail::from("no memory"));
+    }
+    let mut text = String::from_str(alloc, name)?;
+    for byte in &bytes {
+        text.push(char::from(*byte))?;
+    }
+    Ok(text)
+}
+
+/// Checks what the walk meets.
+fn check_walks(rt: &(impl Abort + AllocGlobal), rows: &[(&[u8], &str)]) -> Result<(), Fail> {
+    for (text, wanted) in rows {
+        assert_eq!(rt; walk_answer(rt, text)?.as_str(), *wanted);
+    }
+    Ok(())
+}
+
+#[test]
+fn walks_or_their_first_faults(rt: HostRuntime) -> Result<(), Fail> {
+    let rows = [
+        (b"Net [ ]".as_slice(), "1 0 0 0 0 0"),
+        (b"Net [ host [ ] ]", "Missing id"),
+        (b"Net [ host [ id 1 ] host [ id 1 ] ]", "DoubleId 1"),
+        (b"Net [ host [ id 1 ] router [ id 1 ] ]", "DoubleId 1"),
+        (
+            b"Net [ host [ id 3 ] Net [ id 3 host [ id 3 ] ] ]",
+            "2 2 0 0 0 0",
+        ),
+        (
+            b"Net [ Net [ id 3 ] Net [ idrange [ from 2 to 3 ] ] ]",
+            "DoubleId 3",
+        ),
+        (
+            b"Net [ Net [ idrange [ from 3 to 4 ] host [ idrange [ from 0 to 2 ] interface [ id 0 ] ] link [ attach 0(0) ] ] ]",
+            "3 6 6 2 0 0",
+        ),
+        (
+            b"Net [ Net [ id 3 host [ id 0 interface [ id 0 ] interface [ id 0 ] ] ] ]",
+            "DoubleId 3:0(0)",
+        ),
+        (
+            b"Net [ host [ id 0 interface [ id 0 bitrate fast ] ] ]",
+            "BadNumber bitrate",
+        ),
+        (
+            b"Net [ host [ id 0 graph [ ProtocolSession [ name bgp ] ] ] ]",
+            "UnknownSession bgp",
+        ),
+        (
+            b"Net [ host [ id 0 graph [ ProtocolSession [ name ip ] x 1 ] graph [ ProtocolSession [ name bgp ] ] ] ]",
+            "1 1 0 0 1 0",
+        ),
+        (b"Net [ link [ attach x ] ]", "BadNhi x"),
+        (b"Net [ link [ attach 0(0) ] host [ ] ]", "Missing id"),
+        (b"Net [ host [ ] link [ attach x ] ]", "Missing id"),
+        (
+            b"Net [ host [ id 1 ] host [ id 1 route [ dest default ] ] ]",
+            "Missing interface",
+        ),
+        (
+            b"Net [ traffic [ pattern [ client 0 servers [ nhi 0 port 1 ] servers [ nhi 1 port 2 ] ] ] ]",
+            "1 0 0 0 0 2",
+        ),
+        (
+            b"Net [ traffic [ pattern [ client 0(0) servers [ ] ] ] ]",
+            "BadNhi 0(0)",
+        ),
+        (
+            b"Net [ host [ idrange [ from 0 to 2147483647 ] ] ]",
+            "TooMany hosts",
+        ),
+        (
+            b"Net [ Net [ idrange [ from 0 to 2147483647 ] ] ]",
+            "TooMany nets",
+        ),
+        (
+            b"Net [ host [ id 0 interface [ idrange [ from 0 to 2147483647 ] ] ] ]",
+            "TooMany interfaces",
+        ),
+    ];
+    check_walks(&rt, rows.as_slice())
+}
+
+#[test]
+fn rows_that_are_met_have_their_numbers(rt: HostRuntime) -> Result<(), Fail> {
+    let text =
+        b"Net [ link [ attach 9(9) ] Net [ idrange [ from 3 to 4 ] router [ id 7 interface [ id 2 ] graph [ ProtocolSession [ name ip ] ] ] link [ attach 7(2) ] ] link [ attach 9(9) ] ]";
+    let tree = read(rt.alloc(), 0, text.as_slice())?;
+    let Some(net) = first_list(&tree, b"Net") else {
+        return Err(Fail::from("no Net"));
+    };
+    let Ok(seen) = walk_over(rt.alloc(), 1_000, net) else {
+        return Err(Fail::from("refused"));
+    };
+    assert_eq!(rt; seen.nets.len(), 3);
+    assert_eq!(rt; seen.nets.as_slice()[0].parent, None);
+    assert_eq!(rt; seen.nets.as_slice()[2].parent, Some(0));
+    assert_eq!(rt; seen.nets.as_slice()[1].order, 1);
+    assert_eq!(rt; seen.nets.as_slice()[2].order, 2);
+    assert_eq!(rt; seen.nets.as_slice()[2].ids.as_slice(), [4].as_slice());
+    assert_eq!(rt; seen.hosts.len(), 2);
+    assert_eq!(rt; seen.hosts.as_slice()[1].net, 2);
+    assert!(rt; seen.hosts.as_slice()[1].router);
+    assert_eq!(rt; seen.interfaces.len(), 2);
+    assert_eq!(rt; seen.interfaces.as_slice()[1].host, 1);
+    assert_eq!(rt; seen.sessions.len(), 2);
+    assert_eq!(rt; seen.sessions.as_slice()[1].host, 1);
+    assert_eq!(rt; seen.links.len(), 4);
+    assert_eq!(rt; seen.links.as_slice()[3].order, 3);
+    assert_eq!(rt; seen.links.as_slice()[2].net, 2);
     Ok(())
 }
