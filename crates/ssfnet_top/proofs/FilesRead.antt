@@ -12,7 +12,7 @@ use Rattle.ssfnet_top.specs.declared.refusal.Refusal.{Refusal}
 use Rattle.ssfnet_top.specs.declared.refusal.Refusal.TheVariants as refusal
 use Rattle.ssfnet_top.specs.Refusals.{status_of}
 use Rattle.ssfnet_top.specs.Outcome.{IsRead, IsFileRead, AreRead}
-use Rattle.ssfnet_top.specs.Ending.{IsOfFiles}
+use Rattle.ssfnet_top.specs.Ending.{IsOfFiles, IsReached}
 
 -- a file with these bytes has the fault
 pub read_fault : (files : Files) (number : ℕ) (name bytes : List ℕ) (f : TreeFault) → files name ≡ Some bytes → Reads number bytes (Err f) → IsFileRead files number name (Err (refusal.Dml name f))
@@ -106,6 +106,17 @@ one_of_files names number name (refusal.Shape f) within is h = h
 one_of_files names number name refusal.Write within is h = h
 one_of_files names number name (refusal.Budget budget) within is h = h
 
+-- a file that is reached from `number` on is reached
+abbrev pub Reaches : Files → List (String Global) → ℕ → Type 0
+Reaches files names number = (name : List ℕ) → IsReached files number (map string_bytes (drop number names)) name → IsReached files 0 (map string_bytes names) name
+
+reaches_from : (files : Files) (names : List (String Global)) (number : ℕ) (name : String Global) → number < length names → name ≡ get_or names number name
+    → Reaches files names number → (other : List ℕ) → IsReached files number (string_bytes name ∷ map string_bytes (drop (number + 1) names)) other
+    → IsReached files 0 (map string_bytes names) other
+reaches_from files names number name within is before other here =
+    let P : List (List ℕ) → Type 0 = λ l. IsReached files number l other in
+    before other (subst P (sym (names_at names number name within is)) here)
+
 -- Where the files are told, and memory and the library did not fail (`M`).
 module _ (M : Type 0) (names : List (String Global)) (number : ℕ) (name : String Global) (text : List ℕ) (spelt : text ≡ string_bytes name)
     (within : number < length names) (is : name ≡ get_or names number name) where
@@ -136,6 +147,26 @@ module _ (M : Type 0) (names : List (String Global)) (number : ℕ) (name : Stri
       next_where None here there = tt
       next_where (Some files) here there =
           decides_next files names number name tree root next within is (subst (λ (t : List ℕ). IsFileRead files number t (Ok tree)) spelt here) joins there
+
+  pub reaches_next : (told now : Option Files) (tree : Attributes) → now ≡ told → ⊥ ⊎ IfSome now (λ files. IsFileRead files number text (Ok tree))
+      → IfSome told (λ files. Reaches files names number) → IfSome told (λ files. Reaches files names (number + 1))
+  reaches_next told now tree same (inl never) before = absurd never
+  reaches_next told now tree same (inr read) before =
+      next_where told (subst (λ (o : Option Files). IfSome o (λ files. IsFileRead files number text (Ok tree))) same read) before
+    where
+      next_where : (o : Option Files) → IfSome o (λ files. IsFileRead files number text (Ok tree)) → IfSome o (λ files. Reaches files names number)
+          → IfSome o (λ files. Reaches files names (number + 1))
+      next_where None here there = tt
+      next_where (Some files) here there = λ other reached.
+          reaches_from files names number name within is there other (inr (tree, subst (λ (t : List ℕ). IsFileRead files number t (Ok tree)) spelt here, reached))
+
+  -- the file that could not be read is reached
+  pub reached_here : (told : Option Files) (r : Refusal) → IsOfFiles (text ∷ []) r → IfSome told (λ files. Reaches files names number)
+      → (file : List ℕ) → r ≡ refusal.Read file → IfSome told (λ files. IsReached files 0 (map string_bytes names) file)
+  reached_here None r cause before file read = tt
+  reached_here (Some files) r cause before file read =
+      let found : Contains (text ∷ []) file = subst (λ (s : Refusal). IsOfFiles (text ∷ []) s) read cause in
+      reaches_from files names number name within is before file (inl (sym spelt ∙ same_file text file found))
 
   pub file_of_files : (r : Refusal) → IsOfFiles (text ∷ []) r → IsOfFiles (map string_bytes names) r
   file_of_files r h = one_of_files names number name r within is (subst (λ (t : List ℕ). IsOfFiles (t ∷ []) r) spelt h)

@@ -1,7 +1,8 @@
 -- How a call ends, measured by what is due: all of it, a part of it, or nothing.
-use Rattle.std.specs.Prelude.{ℕ, ◌≡◌, ◌⊎◌, true, List, [], Contains, Option, None, IsSome, Result, Ok, Err}
+use Rattle.std.specs.Prelude.{ℕ, ◌≡◌, ◌+◌, ◌⊎◌, true, List, [], ◌∷◌, Contains, Option, None, IsSome, Result, Ok, Err}
 use Rattle.std.specs.Option.{IsSomeAnd}
 use Rattle.sim_base.specs.Outside.{Files, Rose, Appends, AppendsPrefix}
+use Rattle.dml_tree.specs.Attributes.{Attributes}
 use Rattle.dml_tree.specs.declared.reading.TreeFault.TheVariants as tree_fault
 use Rattle.dml_resolve.specs.declared.resolving.PathFault.{PathFault}
 use Rattle.dml_resolve.specs.declared.resolving.PathFault.TheVariants as path_fault
@@ -13,56 +14,11 @@ use Rattle.ssfnet_top.specs.declared.refusal.Refusal.TheVariants as refusal
 use Rattle.ssfnet_top.specs.Refusals.{status_of}
 use Rattle.ssfnet_top.specs.FilePlaces.{IsPlaced}
 use Rattle.ssfnet_top.specs.Words.{Asked, asked_of_words}
-use Rattle.ssfnet_top.specs.Outcome.{Due, done, refused, refusal_line, file_of_fault, IsOutcome}
-
--- What is seen of the outside: how often the library, `out` and `err` failed, and the bytes that `out` and `err` hold
--- where they are told.
-pub record Outside : Type 0 where
-  pub read_faults : ℕ
-  pub out_faults : ℕ
-  pub err_faults : ℕ
-  pub out : Option (List ℕ)
-  pub err : Option (List ℕ)
-
--- the status is the one that is due, and so are the bytes written
-pub record IsMet (due : Due) (status : ℕ) (before after : Outside) : Type 0 where
-  pub status_is : status ≡ due.status
-  pub out : Appends due.out before.out after.out
-  pub err : Appends due.err before.err after.err
-
--- there was no memory, or a sink failed
-abbrev pub IsStopped : ℕ → Outside → Outside → Type 0
-IsStopped status before after =
-    ((status ≡ 1) × Appends (refusal_line refusal.Memory) before.err after.err)
-    ⊎ ((status ≡ 7) × (Rose before.out_faults after.out_faults ⊎ Rose before.err_faults after.err_faults))
-
--- some of what is due was written, from its beginning
-pub record IsCutShort (due : Due) (status : ℕ) (before after : Outside) : Type 0 where
-  pub stopped : IsStopped status before after
-  pub out : AppendsPrefix due.out before.out after.out
+use Rattle.ssfnet_top.specs.Outcome.{Due, done, refused, refusal_line, file_of_fault, IsFileRead, IsOutcome}
 
 -- a file of this name is one of the command's
 abbrev pub IsFileOf : Option Asked → List ℕ → Type 0
 IsFileOf asked name = IsSomeAnd asked (λ a. Contains a.files name)
-
--- the library failed at a file of the command
-pub record IsUnread (asked : Option Asked) (status : ℕ) (before after : Outside) : Type 0 where
-  pub status_is : status ≡ 3
-  pub rose : Rose before.read_faults after.read_faults
-  pub name : List ℕ
-  pub file : IsFileOf asked name
-  pub err : Appends (refusal_line (refusal.Read name)) before.err after.err
-
--- nothing was written on `out`
-pub record IsNothing (asked : Option Asked) (status : ℕ) (before after : Outside) : Type 0 where
-  pub cause : IsStopped status before after ⊎ IsUnread asked status before after
-  pub out : Appends [] before.out after.out
-
--- A call with these words and these files ended with this status.
-abbrev pub Ends : Files → List (List ℕ) → ℕ → Outside → Outside → Type 0
-Ends files words status before after =
-    ((due : Due) × IsOutcome files words due × (IsMet due status before after ⊎ IsCutShort due status before after))
-    ⊎ IsNothing (asked_of_words words) status before after
 
 -- What a refusal names is of the command, whatever the files hold. Want of memory is no fault of a file or a model.
 abbrev pub HasBudget : Command → ℕ → Type 0
@@ -91,6 +47,70 @@ Concerns asked refusal.NotYet = IsSomeAnd asked (λ a. HasModel a.command)
 Concerns asked (refusal.Shape fault) = IsSomeAnd asked (λ a. HasModel a.command) × ¬ (fault ≡ shape_fault.Memory)
 Concerns asked refusal.Write = IsSome asked
 Concerns asked (refusal.Budget budget) = IsSomeAnd asked (λ a. HasBudget a.command budget)
+
+-- What is seen of the outside: how often the library, `out` and `err` failed, and the bytes that `out` and `err` hold
+-- where they are told.
+pub record Outside : Type 0 where
+  pub read_faults : ℕ
+  pub out_faults : ℕ
+  pub err_faults : ℕ
+  pub out : Option (List ℕ)
+  pub err : Option (List ℕ)
+
+-- the status is the one that is due, and so are the bytes written
+pub record IsMet (due : Due) (status : ℕ) (before after : Outside) : Type 0 where
+  pub status_is : status ≡ due.status
+  pub out : Appends due.out before.out after.out
+  pub err : Appends due.err before.err after.err
+
+-- the line of a refusal was cut short, for `err` failed
+abbrev pub IsLineCut : Option Asked → ℕ → ℕ → Option (List ℕ) → Option (List ℕ) → Type 0
+IsLineCut asked faults faults' held held' = (r : Refusal) × Concerns asked r × Rose faults faults' × AppendsPrefix (refusal_line r) held held'
+
+-- `out` failed, and the line of that stands on `err`; or `err` failed
+abbrev pub IsFailed : Option Asked → Outside → Outside → Type 0
+IsFailed asked before after =
+    (Rose before.out_faults after.out_faults × Appends (refusal_line refusal.Write) before.err after.err)
+    ⊎ IsLineCut asked before.err_faults after.err_faults before.err after.err
+
+-- there was no memory, or a sink failed
+abbrev pub IsStopped : Option Asked → ℕ → Outside → Outside → Type 0
+IsStopped asked status before after =
+    ((status ≡ 1) × Appends (refusal_line refusal.Memory) before.err after.err) ⊎ ((status ≡ 7) × IsFailed asked before after)
+
+-- some of what is due was written, from its beginning
+pub record IsCutShort (asked : Option Asked) (due : Due) (status : ℕ) (before after : Outside) : Type 0 where
+  pub stopped : IsStopped asked status before after
+  pub out : AppendsPrefix due.out before.out after.out
+
+-- Of files with these names, numbered from `number` on, one of this name is reached: each file before it spells a tree.
+abbrev pub IsReached : Files → ℕ → List (List ℕ) → List ℕ → Type 0
+IsReached files number [] name = ⊥
+IsReached files number (first ∷ names) name =
+    (first ≡ name) ⊎ ((tree : Attributes) × IsFileRead files number first (Ok tree) × IsReached files (number + 1) names name)
+
+-- a file of this name is one of the command's, and is reached
+abbrev pub IsFileReached : Files → Option Asked → List ℕ → Type 0
+IsFileReached files asked name = IsSomeAnd asked (λ a. IsReached files 0 a.files name)
+
+-- the library failed at a file of the command, and each file before it spells a tree
+pub record IsUnread (files : Files) (asked : Option Asked) (status : ℕ) (before after : Outside) : Type 0 where
+  pub status_is : status ≡ 3
+  pub rose : Rose before.read_faults after.read_faults
+  pub name : List ℕ
+  pub file : IsFileReached files asked name
+  pub err : Appends (refusal_line (refusal.Read name)) before.err after.err
+
+-- nothing was written on `out`
+pub record IsNothing (files : Files) (asked : Option Asked) (status : ℕ) (before after : Outside) : Type 0 where
+  pub cause : IsStopped asked status before after ⊎ IsUnread files asked status before after
+  pub out : Appends [] before.out after.out
+
+-- A call with these words and these files ended with this status.
+abbrev pub Ends : Files → List (List ℕ) → ℕ → Outside → Outside → Type 0
+Ends files words status before after =
+    ((due : Due) × IsOutcome files words due × (IsMet due status before after ⊎ IsCutShort (asked_of_words words) due status before after))
+    ⊎ IsNothing files (asked_of_words words) status before after
 
 -- Within a call, where files of these names are read: what a refusal may be.
 abbrev pub IsOfFiles : List (List ℕ) → Refusal → Type 0
@@ -146,14 +166,15 @@ Answers IsDue answer faults faults' held held' =
     ⊎ (((due : Due) × IsDue due × IsHalt answer faults faults' × AppendsPrefix due.out held held')
     ⊎ ((answer ≡ Err refusal.Memory) × Appends [] held held'))
 
--- the library failed at a file of this command, and nothing was written
-abbrev pub IsReadFault : Option Asked → Result (Unit {0}) Refusal → ℕ → ℕ → Option (List ℕ) → Option (List ℕ) → Type 0
-IsReadFault asked answer faults faults' held held' =
-    (name : List ℕ) × IsFileOf asked name × (answer ≡ Err (refusal.Read name)) × Rose faults faults' × Appends [] held held'
+-- the library failed at a file of this command that is reached, and nothing was written
+abbrev pub IsReadFault : Files → Option Asked → Result (Unit {0}) Refusal → ℕ → ℕ → Option (List ℕ) → Option (List ℕ) → Type 0
+IsReadFault files asked answer faults faults' held held' =
+    (name : List ℕ) × IsFileReached files asked name × (answer ≡ Err (refusal.Read name)) × Rose faults faults' × Appends [] held held'
 
--- the line of a refusal was written on `err`; or there was no memory for it; or `err` failed
+-- the line of a refusal was written on `err`; or there was no memory for it; or `err` failed, and one of these lines
+-- was cut short
 abbrev pub IsTold : Refusal → ℕ → ℕ → ℕ → Option (List ℕ) → Option (List ℕ) → Type 0
 IsTold r status faults faults' held held' =
     ((status ≡ status_of r) × Appends (refusal_line r) held held')
     ⊎ (((status ≡ 1) × ¬ (r ≡ refusal.Write) × Appends (refusal_line refusal.Memory) held held')
-    ⊎ ((status ≡ 7) × Rose faults faults'))
+    ⊎ ((status ≡ 7) × Rose faults faults' × (AppendsPrefix (refusal_line r) held held' ⊎ AppendsPrefix (refusal_line refusal.Memory) held held')))

@@ -1,9 +1,9 @@
 //! The files of a command: read, parsed and joined to one tree.
-ghost use Rattle.std.specs.Prelude.{◌≡◌, ◌≤◌, ◌<◌, ◌^◌, ◌⊎◌, ◌∷◌, [], length, map, string_bytes, IfOk, IfErr, IfSome, IsErrAnd};
+ghost use Rattle.std.specs.Prelude.{◌≡◌, ◌≤◌, ◌<◌, ◌^◌, ◌⊎◌, ◌∷◌, [], ℕ, List, length, map, string_bytes, IfOk, IfErr, IfSome, IsErrAnd};
 ghost use Rattle.sim_base.specs.Outside.{Rose};
 ghost use Rattle.ssfnet_top.specs.Refusals.{status_of};
 ghost use Rattle.ssfnet_top.specs.Outcome.{IsFileRead, AreRead};
-ghost use Rattle.ssfnet_top.specs.Ending.{IsOfFiles};
+ghost use Rattle.ssfnet_top.specs.Ending.{IsOfFiles, IsReached};
 ghost use Rattle.ssfnet_top.specs.FilePlaces.{AllPlaces, ArePlaced};
 
 use crate::Refusal;
@@ -67,6 +67,7 @@ pub fn read_files<L: Library>(
     ensures files { IsErrAnd result (λ r. (r ≡ Refusal.Memory) ⊎ (status_of r ≡ 3)) ⊎ IfSome (L.files library.old) (λ told. AreRead told 0 (map string_bytes names.now) result) }
     ensures placed { IfOk result (λ tree. ArePlaced (map string_bytes names.now) tree) }
     ensures cause { IfErr result (λ r. IsOfFiles (map string_bytes names.now) r) }
+    ensures reached { IfErr result (λ r. (name : List ℕ) → r ≡ Refusal.Read name → IfSome (L.files library.old) (λ told. IsReached told 0 (map string_bytes names.now) name)) }
     ensures read { IfErr result (λ r. status_of r ≡ 3 → Rose (L.faults library.old) (L.faults library.new)) }
     ensures never_falls { L.faults library.old ≤ L.faults library.new }
     ensures same_files { L.files library.new ≡ L.files library.old }

@@ -6,7 +6,7 @@ ghost use Rattle.ssfnet_top.specs.Words.{asked_of_words, IsInRange, MostFiles};
 ghost use Rattle.ssfnet_top.specs.Refusals.{status_of, line_of};
 ghost use Rattle.ssfnet_top.specs.Outcome.{IsCommandDue, IsOutcome, refusal_line};
 ghost use Rattle.ssfnet_top.specs.FilePlaces.{ArePlaced};
-ghost use Rattle.ssfnet_top.specs.Ending.{Ends, Concerns, Answers, IsReadFault, IsOfCommand, IsOfModel, IsTold};
+ghost use Rattle.ssfnet_top.specs.Ending.{Ends, Concerns, Answers, IsReadFault, IsOfCommand, IsOfModel, IsTold, IsLineCut};
 
 use crate::files::read_files;
 use crate::printing::{print_resolved, print_tree};
@@ -42,11 +42,12 @@ pub fn offline<L: Library, K: Sink, J: Sink>(
         (record { read_faults = L.faults library.new; out_faults = K.faults out.new; err_faults = J.faults err.new; out = K.held out.new; err = J.held err.new })) }
     ensures words_only { result ≡ 2 → asked_of_words (map string_bytes words.now) ≡ None }
     ensures words_all { asked_of_words (map string_bytes words.now) ≡ None → (result ≡ 1) ⊎ ((result ≡ 2) ⊎ (result ≡ 7)) }
+    ensures refused { asked_of_words (map string_bytes words.now) ≡ None → Appends [] (K.held out.old) (K.held out.new) }
     ensures read { result ≡ 3 → Rose (L.faults library.old) (L.faults library.new) }
     ensures write { result ≡ 7 → Rose (K.faults out.old) (K.faults out.new) ⊎ Rose (J.faults err.old) (J.faults err.new) }
     ensures nothing { 2 ≤ result → result ≤ 6 → Appends [] (K.held out.old) (K.held out.new) }
     ensures quiet { result ≡ 0 → Appends [] (J.held err.old) (J.held err.new) }
-    ensures line { (result ≡ 0) ⊎ ((result ≡ 7) ⊎ ((r : RefusalValue) × (status_of r ≡ result) × Concerns (asked_of_words (map string_bytes words.now)) r × Appends (refusal_line r) (J.held err.old) (J.held err.new))) }
+    ensures line { (result ≡ 0) ⊎ (((result ≡ 7) × IsLineCut (asked_of_words (map string_bytes words.now)) (J.faults err.old) (J.faults err.new) (J.held err.old) (J.held err.new)) ⊎ ((r : RefusalValue) × (status_of r ≡ result) × Concerns (asked_of_words (map string_bytes words.now)) r × Appends (refusal_line r) (J.held err.old) (J.held err.new))) }
 {
     match answer(alloc, words, library, out) {
         Ok(()) => 0,
@@ -62,9 +63,10 @@ fn answer<L: Library, K: Sink>(
     out: &mut K,
 ) -> Result<(), Refusal>
     ensures outcome { IfSome (L.files library.old) (λ told. Answers (IsOutcome told (map string_bytes words.now)) result (K.faults out.old) (K.faults out.new) (K.held out.old) (K.held out.new)
-        ⊎ IsReadFault (asked_of_words (map string_bytes words.now)) result (L.faults library.old) (L.faults library.new) (K.held out.old) (K.held out.new)) }
+        ⊎ IsReadFault told (asked_of_words (map string_bytes words.now)) result (L.faults library.old) (L.faults library.new) (K.held out.old) (K.held out.new)) }
     ensures concerns { IfErr result (λ r. Concerns (asked_of_words (map string_bytes words.now)) r) }
     ensures words { asked_of_words (map string_bytes words.now) ≡ None → IsErrAnd result (λ r. (r ≡ Refusal.Memory) ⊎ (r ≡ Refusal.Words)) }
+    ensures refused { asked_of_words (map string_bytes words.now) ≡ None → Appends [] (K.held out.old) (K.held out.new) }
     ensures read { IfErr result (λ r. status_of r ≡ 3 → Rose (L.faults library.old) (L.faults library.new)) }
     ensures write { IfErr result (λ r. r ≡ Refusal.Write → Rose (K.faults out.old) (K.faults out.new)) }
     ensures nothing { IfErr result (λ r. 2 ≤ status_of r → status_of r ≤ 6 → Appends [] (K.held out.old) (K.held out.new)) }
@@ -129,7 +131,7 @@ fn tell_cause<J: Sink>(alloc: Global, refusal: &Refusal, err: &mut J) -> u8
 
 /// Writes a line, and answers this status where it was written.
 fn say<J: Sink>(line: &[u8], status: u8, err: &mut J) -> u8
-    ensures { ((result ≡ status) × Appends line.now (J.held err.old) (J.held err.new)) ⊎ ((result ≡ WRITE_STATUS) × Rose (J.faults err.old) (J.faults err.new)) }
+    ensures { ((result ≡ status) × Appends line.now (J.held err.old) (J.held err.new)) ⊎ ((result ≡ WRITE_STATUS) × Rose (J.faults err.old) (J.faults err.new) × AppendsPrefix line.now (J.held err.old) (J.held err.new)) }
 {
     match write_all(err, line) {
         Ok(()) => status,

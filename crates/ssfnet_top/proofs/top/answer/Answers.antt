@@ -10,4 +10,4 @@ returns-clause-outcome g c =
     unread_answers (map string_bytes c.args.words.now) asked (map string_bytes c.as_slice-names.result.now) c.in-Ok.ensures.ok
     (ap (λ (l : List (String Global)). map string_bytes l) c.as_slice-names.ensures.value)
     (g.L.Library.files c.args.library.now) c.in-Err.refusal (g.L.Library.faults c.args.library.now) (g.L.Library.faults c.read_files.new.library)
-    (g.K.Sink.faults c.args.out.now) (g.K.Sink.held c.args.out.now) c.in-Err.ensures.files c.in-Err.ensures.cause c.in-Err.ensures.read
+    (g.K.Sink.faults c.args.out.now) (g.K.Sink.held c.args.out.now) c.in-Err.ensures.files c.in-Err.ensures.reached c.in-Err.ensures.read

@@ -20,7 +20,7 @@ returns-in-Err-clause-outcome g c =
       out = g.K.Sink.held c.answer.new.out;
       err = g.J.Sink.held c.tell.new.err;
     } in
-    told_refused (g.L.Library.files c.args.library.now) (map string_bytes c.args.words.now) before after c.in-Err.refusal c.tell.result c.in-Err.ensures.outcome c.tell.ensures
+    told_refused (g.L.Library.files c.args.library.now) (map string_bytes c.args.words.now) before after c.in-Err.refusal c.tell.result c.in-Err.ensures.outcome c.in-Err.ensures.concerns c.tell.ensures
 
 pub returns-in-Err-clause-line : goal.returns-in-Err-clause-line
 returns-in-Err-clause-line g c =
