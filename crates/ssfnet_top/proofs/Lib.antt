@@ -7,3 +7,4 @@ pub mod Pieces
 pub mod RunOutcome
 pub mod Walking
 pub mod Weights
+pub mod Worked
