@@ -62,6 +62,9 @@ impl Refusal {
     }
 
     /// Appends the line that is written on `err`.
+    ///
+    /// # Errors
+    /// `Memory` where there was none. A part of the line may then stand in `out`.
     #[tactic(auto, unfolding(crate::specs::Refusals::line_of))]
     pub fn push_line(&self, out: &mut Vec<u8>) -> Result<(), Memory>
         ensures { OnOk result (out.new.items ≡ out.old.items ++ (line_of self.now ++ 10 ∷ [])) }

@@ -273,7 +273,9 @@ fn command_of(name: &str, options: &[(String, String)], flags: &[String]) -> Opt
 /// What the words ask: a command, and the names of its files.
 #[derive(Drop)]
 pub struct Request {
+    /// The command, with the numbers that it is asked.
     pub command: Command,
+    /// The names of the files of the model, 1 to 64, in the order of the words.
     pub files: Vec<String>,
 }
 
