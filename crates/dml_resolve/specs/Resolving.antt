@@ -189,7 +189,8 @@ result_of (Err reason) = Err reason
 unfoldable pub resolved : Attributes → Result Attributes PathFault
 resolved root = result_of (expand (level_from root (below root most_nested) is_schemas root root) 0)
 
--- how many attributes of a resolved tree are counted: all of them, but those in the lists `schemas` of the root
+-- the attributes of a resolved tree but those in the lists `schemas` of the root. At least so many were counted: a copy
+-- of `schemas` that a substitution gives is counted, and is left out here
 abbrev pub counted_weight : Attributes → ℕ
 counted_weight none = 0
 counted_weight (plain key place text rest) = 1 + counted_weight rest

@@ -6,14 +6,15 @@ ghost use Rattle.dml_resolve.specs.Places.{has_key};
 
 use dml_tree::Tree;
 
-/// The place of the first attribute with this key.
+/// The index, from 0, of the first attribute with this key among the attributes of the list itself.
 pub fn first(tree: &Tree, key: &[u8]) -> Option<usize>
     ensures { result ≡ position_from (has_key key.now) 0 (attributes tree.now) }
 {
     place_from(tree, key, 0)
 }
 
-/// The place of the first attribute with this key behind the place `after`.
+/// The index of the first attribute with this key behind the index `after`, among the attributes of the
+/// list itself.
 pub fn next(tree: &Tree, key: &[u8], after: usize) -> Option<usize>
     ensures { result ≡ position_from (has_key key.now) (after + 1) (drop (after + 1) (attributes tree.now)) }
 {
