@@ -63,8 +63,9 @@ pub trait Behaviour: Drop {
     ) -> bool
         ensures { IsTrue result ↔ valid self.now state.now ins.now outs.now (map is_timed processes.now) waits.now };
 
-    /// From a valid state an action leads to valid states, writes on its entity's own channels what
-    /// messages may carry, and waits on its entity's own in-channels, as long as the process may.
+    /// From a valid state an action leads to a valid one. It writes on out-channels of its entity what
+    /// messages may carry, and waits on in-channels of its entity, with delays and times in range; a
+    /// process that is not timed waits for no time.
     ghost sound: { (b : Self) → KeepsValid (valid b) (carried b) (reaction b) };
 
     /// In a valid state one event writes at most `MostWrites` times on one out-channel.
