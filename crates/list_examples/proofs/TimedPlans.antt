@@ -1,5 +1,5 @@
 -- The two entities with timers can be run.
-use Rattle.std.proofs.Common.{◌≡◌, ◌≤◌, refl, arith, [], ◌∷◌, true}
+use Rattle.std.proofs.Common.{refl, arith}
 use Rattle.plan_opening.specs.Placed.{IsWhole}
 use Rattle.plan_opening.proofs.Openings.{planned_runnable}
 use Rattle.ssf_model.specs.Drafts.{planned}

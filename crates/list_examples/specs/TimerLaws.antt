@@ -1,7 +1,7 @@
 -- The laws of every behaviour, for the two entities with timers.
-use Rattle.std.specs.Prelude.{ℕ, zero, suc, ◌≡◌, ◌≤◌, ◌+◌, Bool, true, false, cond, List, [], ◌∷◌, ◌++◌, map, length, Option, Some, None, slice_get}
+use Rattle.std.specs.Prelude.{ℕ, zero, suc, ◌≡◌, ◌≤◌, ◌+◌, Bool, true, false, cond, List, [], ◌∷◌, map, length, Option, Some, None, slice_get}
 use Rattle.std.specs.List.{count_by}
-use Rattle.std.proofs.Common.{refl, ap, sym, ◌∙◌, arith, inl}
+use Rattle.std.proofs.Common.{refl, ap, arith, inl}
 use Rattle.std.proofs.lemmas.List.Sums.{sum_by-append, count_by-le-length}
 use Rattle.ssf_model.specs.declared.wait.Wait.{Wait}
 use Rattle.ssf_model.specs.declared.wait.Wake.{Wake}
@@ -10,8 +10,8 @@ use Rattle.ssf_model.specs.declared.wait.Kind.{Kind}
 use Rattle.ssf_model.specs.declared.out.Written.{Written}
 use Rattle.ssf_model.specs.declared.process.Process.{Process}
 use Rattle.ssf_model.specs.Wake.{timer_delay}
-use Rattle.ssf_model.specs.Reaction.{Reaction, KeepsValid, Keeps, IsReady, is_timed}
-use Rattle.ssf_model.specs.Deliver.{IsModest, MostWrites, wake_of, reacted, delivered, is_write_on, timer_write}
+use Rattle.ssf_model.specs.Reaction.{Reaction, KeepsValid, Keeps, is_timed}
+use Rattle.ssf_model.specs.Deliver.{IsModest, wake_of, reacted, delivered, is_write_on, timer_write}
 use Rattle.list_examples.specs.declared.timers.Idle.{Idle}
 use Rattle.list_examples.specs.declared.timers.Signal.{Signal}
 use Rattle.list_examples.specs.Timers.{ticker_reaction, IsTicker, listener_reaction, IsListener, AnySignal}

@@ -2,7 +2,6 @@
 use Rattle.std.specs.Prelude.{ℕ, zero, suc, ◌≡◌, Bool, true, List, [], ◌∷◌}
 use Rattle.ssf_model.specs.declared.wait.Wait.{Wait}
 use Rattle.ssf_model.specs.declared.wait.Wait.TheVariants.{For, OnFor, Forever}
-use Rattle.ssf_model.specs.declared.wait.Wake.{Wake}
 use Rattle.ssf_model.specs.declared.wait.Wake.TheVariants.{Begin, Timer, Message}
 use Rattle.ssf_model.specs.declared.out.Written.TheVariants.{Channel}
 use Rattle.ssf_model.specs.Reaction.{Outcome, Reaction, Validity}
