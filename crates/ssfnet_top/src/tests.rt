@@ -1,6 +1,6 @@
 //! The command on worked examples, over files and sinks in memory.
 use crate::offline;
-use sim_base::{MemoryLibrary, MemorySink, Sink, Text};
+use sim_base::{Library, MemoryLibrary, MemorySink, Sink, Text};
 use std::alloc::Global;
 use std::process::Abort;
 use std::test::Fail;
@@ -41,7 +41,7 @@ fn split_words(alloc: Global, text: &str) -> Result<Vec<String>, Fail> {
     Ok(words)
 }
 
-fn library_of(alloc: Global, model: &str) -> Result<MemoryLibrary, Fail> {
+fn files_of(alloc: Global, model: &str) -> Result<Vec<(Text, Text)>, Fail> {
     let mut files = Vec::new(alloc);
     files.push((
         Text::of(alloc, b"m.dml")?,
@@ -57,6 +57,11 @@ fn library_of(alloc: Global, model: &str) -> Result<MemoryLibrary, Fail> {
         Text::of(alloc, b"more.dml")?,
         Text::of(alloc, MORE.as_bytes())?,
     ))?;
+    Ok(files)
+}
+
+fn library_of(alloc: Global, model: &str) -> Result<MemoryLibrary, Fail> {
+    let files = files_of(alloc, model)?;
     Ok(MemoryLibrary::new(files, Vec::new(alloc)))
 }
 
@@ -709,7 +714,49 @@ fn failing_sinks_keep_a_part(rt: HostRuntime) -> Result<(), Fail> {
         b"ring [\n  nodes 2\n  token 0\n  hop [\n    from 0\n    to 1\n    delay 5\n  ]\n  hop [\n    from 1\n    to 0\n    delay 3\n  ]\n]\n";
     for call in 0..7u64 {
         check_failing(&rt, "seq --until 10 m.dml", trace, call)?;
+    }
+    for call in 0..13u64 {
         check_failing(&rt, "dml m.dml", printing, call)?;
+    }
+    Ok(())
+}
+
+/// Runs the command over a library that fails at its call number `call`, and looks at the line of
+/// its refusal.
+fn check_failing_library(
+    rt: &(impl Abort + AllocGlobal),
+    words: &str,
+    call: u64,
+    status: u8,
+    line: &[u8],
+) -> Result<(), Fail> {
+    let alloc = rt.alloc();
+    let words = split_words(alloc, words)?;
+    let mut library = MemoryLibrary::new(files_of(alloc, TWO)?, vec![in alloc; call]?);
+    let mut out = MemorySink::new(alloc, 64, 4096, Vec::new(alloc))?;
+    let mut err = MemorySink::new(alloc, 64, 4096, Vec::new(alloc))?;
+    let ended = offline(alloc, words.as_slice(), &mut library, &mut out, &mut err);
+    assert_eq!(rt; ended, status);
+    assert_eq!(rt; library.faults(), u64::from(status == 3));
+    assert!(rt; out.bytes().is_empty());
+    assert!(rt; err.bytes() == line);
+    Ok(())
+}
+
+/// Each file takes three calls: one to fetch it, one to read its bytes, and one to find its end.
+#[test]
+fn failing_libraries_name_the_file_at_hand(rt: HostRuntime) -> Result<(), Fail> {
+    for words in &["dml m.dml base.dml", "seq --until 10 m.dml base.dml"] {
+        for call in 0..3u64 {
+            check_failing_library(&rt, words, call, 3, b"read m.dml\n")?;
+        }
+        for call in 3..6u64 {
+            check_failing_library(&rt, words, call, 3, b"read base.dml\n")?;
+        }
+    }
+    let line = b"dml bad.dml StrayClose 0\n";
+    for call in 3..6u64 {
+        check_failing_library(&rt, "dml bad.dml m.dml", call, 4, line)?;
     }
     Ok(())
 }
