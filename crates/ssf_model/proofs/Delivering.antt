@@ -1,6 +1,6 @@
 -- How the loop over an entity's processes goes: what was done so far, and what the processes still to come will do,
 -- are together what the event makes of the whole entity.
-use Rattle.std.proofs.Common.{◌≡◌, ℕ, zero, suc, ◌+◌, ◌-◌, ◌<◌, ◌≤◌, ◌^◌, Bool, true, false, cond, ◌&&◌, nat_eq, List, [], ◌∷◌, ◌++◌, map, length, get_or, take, drop, set, refl, sym, ap, subst, ◌∙◌, append_assoc, append-nil, arith, inl, inr, rules, add-one, Option, Some, None, IfSome, slice_get, slice_index_or, option_map, drop-cons, take-suc-set, drop-set-lt, length-set, eqb-true, get_or-drop, drop-drop}
+use Rattle.std.proofs.Common.{◌≡◌, ℕ, ◌+◌, ◌<◌, ◌≤◌, Bool, true, false, cond, ◌&&◌, nat_eq, List, [], ◌∷◌, ◌++◌, map, length, get_or, take, drop, set, refl, sym, ap, subst, ◌∙◌, append_assoc, append-nil, arith, add-one, Option, Some, None, slice_get, option_map, drop-cons, drop-set-lt, length-set, eqb-true, get_or-drop, drop-drop}
 use Rattle.std.proofs.lemmas.Option.{slice_get-map, slice_get_read, get_or_from_slice_get}
 use Rattle.std.proofs.lemmas.List.{map-set, set-get_or, take_more_set, get_or_default}
 use Rattle.std.proofs.Math.Seq.{map-set_same, drop-length, take-length}
@@ -12,9 +12,9 @@ use Rattle.ssf_model.specs.declared.out.Written.{Written}
 use Rattle.ssf_model.specs.declared.event.Line.{Line}
 use Rattle.ssf_model.specs.declared.process.Process.{Process}
 use Rattle.ssf_model.specs.declared.wait.Wait.TheVariants.{Forever}
-use Rattle.ssf_model.specs.Wake.{waits_on, HasTimer}
+use Rattle.ssf_model.specs.Wake.{waits_on}
 use Rattle.ssf_model.specs.Reaction.{Reaction, Validity, IsReady, Keeps, KeepsValid, LatestTime, is_timed, wait_of, Admits, Carries}
-use Rattle.ssf_model.specs.Deliver.{wake_of, reacted, Reacted, delivered, Delivered, IsTimely, IsCarried}
+use Rattle.ssf_model.specs.Deliver.{wake_of, reacted, delivered, Delivered, IsTimely, IsCarried}
 
 drop_along : (i : ℕ) (ps qs : List Process) → drop i ps ≡ drop i qs → drop (i + 1) ps ≡ drop (i + 1) qs
 drop_along i ps qs e = rw (← drop-drop 1 i ps, ← drop-drop 1 i qs, e) refl

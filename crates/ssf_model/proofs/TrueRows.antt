@@ -1,9 +1,9 @@
 -- Shares, writes and parcels of a worked run, computed from the definitions. The entity writes the ends of its first
 -- wait and of its second on channel 1.
-use Rattle.std.proofs.Common.{◌≡◌, ℕ, zero, suc, ◌+◌, false, [], ◌∷◌, map, refl, subst, inl, Some, slice_get}
+use Rattle.std.proofs.Common.{◌≡◌, ℕ, zero, suc, ◌+◌, false, [], ◌∷◌, map, refl, subst, Some, slice_get}
 use Rattle.event_order.specs.Order.{comes_before}
 use Rattle.event_machine.specs.Machine.{all_kept}
-use Rattle.ssf_model.specs.declared.wait.Kind.TheVariants.{Timer, Message}
+use Rattle.ssf_model.specs.declared.wait.Kind.TheVariants.{Timer}
 use Rattle.ssf_model.specs.declared.event.Event.{Event}
 use Rattle.ssf_model.specs.declared.event.Parcel.{Parcel}
 use Rattle.ssf_model.specs.Drafts.{planned}
@@ -25,7 +25,7 @@ second_end = record { key = key 6 0 1 1; entity = 0; kind = Timer 0 2 }
 -- event number 2, the message, makes process 0 wait anew: write number 1 on channel 1
 second_end_is_write_one : IsWrite listens listening 6 all_kept 1 1 second_end
 unfolding machine_of comes_before planned listens listening key second_end
-second_end_is_write_one = record { at = 2; by = record { key = key 2 1 3 0; entity = 0; kind = Message 0 tt }; is = refl; written = inl refl; channel = refl; number = refl }
+second_end_is_write_one = record { within = 3; is = refl }
 
 one_end : Parcel (Unit {0})
 one_end = record { first = 1; events = second_end ∷ []; promise = 0 }

@@ -1,6 +1,6 @@
 -- Worked runs, computed from the definitions: processes that wait for a time, and a wait that ends after its process
 -- was woken by a message.
-use Rattle.std.proofs.Common.{◌≡◌, ℕ, zero, suc, true, List, [], ◌∷◌, map, Some, option_map, refl}
+use Rattle.std.proofs.Common.{◌≡◌, ℕ, zero, suc, true, [], ◌∷◌, map, Some, option_map, refl}
 use Rattle.event_order.specs.declared.key.Key.{Key}
 use Rattle.event_order.specs.Order.{comes_before}
 use Rattle.event_machine.specs.Machine.{all_kept}

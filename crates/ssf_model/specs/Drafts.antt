@@ -1,5 +1,5 @@
 -- Plans that are being made: what each call adds, when it is refused, and the plan that comes of it.
-use Rattle.std.specs.Prelude.{ℕ, ◌≡◌, ◌+◌, ◌<◌, ◌≤◌, Bool, cond, nat_le, nat_lt, List, [], ◌∷◌, ◌++◌, map, length, replicate, sum_by, count_by, Option, Some, None, slice_index_or, slice_index, slice_get, slice_set, true, false}
+use Rattle.std.specs.Prelude.{ℕ, ◌≡◌, ◌+◌, ◌≤◌, Bool, cond, nat_le, nat_lt, List, [], ◌∷◌, ◌++◌, map, length, replicate, sum_by, count_by, Option, Some, None, slice_index_or, slice_index, slice_get, slice_set}
 use Rattle.std.specs.List.{range_with_len}
 use Rattle.std.specs.Bool.{then_some}
 use Rattle.ssf_model.specs.declared.builder.BuildFault.{BuildFault}

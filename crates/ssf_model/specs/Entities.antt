@@ -1,5 +1,5 @@
 -- Entities in a valid state.
-use Rattle.std.specs.Prelude.{ℕ, ◌≤◌, ◌^◌, length, map}
+use Rattle.std.specs.Prelude.{◌≤◌, ◌^◌, length, map}
 use Rattle.ssf_model.specs.declared.entity.Entity.{Entity}
 use Rattle.ssf_model.specs.Reaction.{Validity, is_timed, wait_of}
 

@@ -3,6 +3,7 @@ pub mod Deliver
 pub mod Drafts
 pub mod Entities
 pub mod Output
+pub mod Owners
 pub mod Reaction
 pub mod Run
 pub mod Wake

@@ -1,5 +1,5 @@
 -- What a behaviour is: how a process reacts to what wakes it, which states are valid, and what every reaction keeps.
-use Rattle.std.specs.Prelude.{ℕ, ◌≡◌, ◌≤◌, ◌<◌, ◌+◌, ◌^◌, ◌⊎◌, Bool, true, false, nat_eq, List, [], ◌∷◌, map, Option, Some, None, IfSome, IsSome, is_some, slice_get, slice_set}
+use Rattle.std.specs.Prelude.{ℕ, ◌≡◌, ◌≤◌, Bool, true, false, List, [], ◌∷◌, Some, is_some, slice_get, slice_set}
 use Rattle.event_order.specs.Pending.{Among}
 use Rattle.ssf_model.specs.declared.wait.Wait.{Wait}
 use Rattle.ssf_model.specs.declared.wait.Wait.TheVariants.{On, For, OnFor, Forever}
@@ -9,7 +9,7 @@ use Rattle.ssf_model.specs.declared.out.Written.{Written}
 use Rattle.ssf_model.specs.declared.out.Written.TheVariants.{Channel, Timer as TimerWrite}
 use Rattle.ssf_model.specs.declared.event.Line.{Line}
 use Rattle.ssf_model.specs.declared.process.Process.{Process}
-use Rattle.ssf_model.specs.Wake.{waits_on, timer_delay, HasTimer}
+use Rattle.ssf_model.specs.Wake.{waits_on, HasTimer}
 
 -- the longest time of an event and the longest delay, in ticks
 abbrev pub LatestTime : ℕ
@@ -80,6 +80,13 @@ IsOwnWait ins (On channels) = Each (λ c. Among c ins) channels
 IsOwnWait ins (For ticks) = ticks ≤ LongestDelay
 IsOwnWait ins (OnFor channels ticks) = Each (λ c. Among c ins) channels × (ticks ≤ LongestDelay)
 IsOwnWait ins Forever = Unit {0}
+
+-- the in-channels that a wait names
+abbrev pub channels_named : Wait → List ℕ
+channels_named (On channels) = channels
+channels_named (For ticks) = []
+channels_named (OnFor channels ticks) = channels
+channels_named Forever = []
 
 -- what the action of process number i keeps: validity, and the bounds of its entity
 pub record Keeps {S P : Type 0} (valid : Validity S) (carried : P → Type 0) (ins outs : List ℕ) (timed : List Bool) (waits : List Wait)

@@ -1,10 +1,9 @@
 -- Plans, and the run of a plan: its events one by one in the order of their keys.
-use Rattle.std.specs.Prelude.{ℕ, ◌≡◌, ◌+◌, ◌<◌, ◌≤◌, ◌^◌, ◌*◌, zero, suc, Bool, true, false, List, [], ◌∷◌, ◌++◌, map, length, Option, Some, None, IfSome, option_map, option_to_list, slice_get, slice_set, slice_index}
+use Rattle.std.specs.Prelude.{ℕ, ◌≡◌, ◌+◌, ◌<◌, ◌≤◌, ◌^◌, ◌*◌, zero, suc, Bool, List, [], ◌++◌, map, length, Option, Some, None, option_map, option_to_list, slice_get, slice_set, slice_index}
 use Rattle.std.specs.List.{flat_map, range_with_len}
 use Rattle.event_order.specs.declared.key.Key.{Key}
 use Rattle.event_order.specs.Pending.{Among, IsRising}
 use Rattle.event_machine.specs.Machine.{Machine, World, after, event, first_events, option_list}
-use Rattle.ssf_model.specs.declared.wait.Wait.{Wait}
 use Rattle.ssf_model.specs.declared.wait.Kind.{Kind}
 use Rattle.ssf_model.specs.declared.wait.Kind.TheVariants.{Begin, Timer, Message}
 use Rattle.ssf_model.specs.declared.event.Event.{Event}
@@ -14,8 +13,7 @@ use Rattle.ssf_model.specs.declared.entity.Entity.{Entity}
 use Rattle.ssf_model.specs.declared.plan.Mapping.{Mapping}
 use Rattle.ssf_model.specs.declared.plan.Plan.{Plan}
 use Rattle.ssf_model.specs.Wake.{HasTimer}
-use Rattle.ssf_model.specs.Reaction.{Reaction, Validity, Each, IsOwnWait, LongestDelay}
-use Rattle.ssf_model.specs.Deliver.{Delivered}
+use Rattle.ssf_model.specs.Reaction.{Reaction, Validity, Each, channels_named, LongestDelay}
 use Rattle.ssf_model.specs.Drafts.{MostChannels}
 use Rattle.ssf_model.specs.Entities.{IsValidEntity}
 use Rattle.ssf_model.specs.Channels.{delivered_to, entity_after, sent_by, counted, numbered}
@@ -81,9 +79,9 @@ pub record IsMappingOf {B S P : Type 0} (entities : List (Entity B S P)) (m : Ma
   pub delay : m.delay ≤ LongestDelay
   pub priority : m.priority < 2 ^ 8
 
--- a process of an entity with these in-channels: its wait is the entity's own, and ends by itself only if it is timed
+-- a process of an entity with these in-channels: its wait names the entity's own, and ends by itself only if it is timed
 pub record IsProcessOf (ins : List ℕ) (p : Process) : Type 0 where
-  pub waits : IsOwnWait ins p.wait
+  pub waits : Each (λ c. Among c ins) (channels_named p.wait)
   pub untimed : p.timer ≡ None → HasTimer p.wait → ⊥
   pub ticket : p.ticket ≤ 10 ^ 18
 

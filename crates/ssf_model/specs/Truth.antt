@@ -1,14 +1,15 @@
 -- Facts on the run of a plan alone: which of its events are on a timeline, which of its writes has which place on a
 -- channel, what a promise says, and which parcels are true. `line` numbers the timeline of each entity.
-use Rattle.std.specs.Prelude.{ℕ, ◌≡◌, ◌+◌, ◌<◌, ◌≤◌, Bool, true, nat_eq, List, length, Some, slice_get}
+use Rattle.std.specs.Prelude.{ℕ, zero, suc, ◌≡◌, ◌+◌, ◌<◌, ◌≤◌, Bool, true, nat_eq, List, [], ◌++◌, length, Some, slice_get}
+use Rattle.std.specs.List.{filter, flat_map}
 use Rattle.event_order.specs.declared.key.Key.{Key}
-use Rattle.event_order.specs.Pending.{Among}
+use Rattle.event_machine.specs.Machine.{option_list}
 use Rattle.event_machine.specs.Run.{share}
 use Rattle.ssf_model.specs.declared.event.Event.{Event}
 use Rattle.ssf_model.specs.declared.event.Parcel.{Parcel}
 use Rattle.ssf_model.specs.declared.plan.Plan.{Plan}
 use Rattle.ssf_model.specs.Reaction.{Reaction}
-use Rattle.ssf_model.specs.Run.{machine_of, opening, counts_of, run_event, world_after}
+use Rattle.ssf_model.specs.Run.{machine_of, opening, run_event, world_after}
 
 -- the event happens on this timeline
 abbrev pub is_on_line : {P : Type 0} → (ℕ → ℕ) → ℕ → Event P → Bool
@@ -18,15 +19,25 @@ is_on_line line i e = nat_eq (line e.entity) i
 abbrev pub line_events : {B S P : Type 0} → Reaction S P → Plan B S P → ℕ → (Key → Bool) → (ℕ → ℕ) → ℕ → ℕ → List (Event P)
 line_events r plan until kept line i n = share (machine_of r plan.mappings) until kept (opening plan) (is_on_line line i) n
 
--- d is the write on channel c before which the run wrote n times on c: some event of the run writes it, and its number
--- is the opening count of c and n together. The cut may drop it
-pub record IsWrite {B S P : Type 0} (r : Reaction S P) (plan : Plan B S P) (until : ℕ) (kept : Key → Bool) (c n : ℕ) (d : Event P) : Type 0 where
-  pub at : ℕ
-  pub by : Event P
-  pub is : run_event r plan until kept at ≡ Some by
-  pub written : Among d ((machine_of {B = B} r plan.mappings).writes (world_after r plan until kept at).state by)
-  pub channel : d.key.channel ≡ c
-  pub number : d.key.number ≡ counts_of plan.counts c + n
+-- the writes of the first n events of the run, in the order in which they are made. The cut may have dropped some of
+-- them from what is pending; they count all the same
+abbrev pub writes_within : {B S P : Type 0} → Reaction S P → Plan B S P → ℕ → (Key → Bool) → ℕ → List (Event P)
+writes_within r plan until kept zero = []
+writes_within r plan until kept (suc n) =
+    writes_within r plan until kept n
+    ++ flat_map ((machine_of r plan.mappings).writes (world_after r plan until kept n).state) (option_list (run_event r plan until kept n))
+
+-- those of them on channel c
+abbrev pub is_on_channel : {P : Type 0} → ℕ → Event P → Bool
+is_on_channel c d = nat_eq d.key.channel c
+
+abbrev pub writes_on : {B S P : Type 0} → Reaction S P → Plan B S P → ℕ → (Key → Bool) → ℕ → ℕ → List (Event P)
+writes_on r plan until kept c n = filter (is_on_channel c) (writes_within r plan until kept n)
+
+-- d is the write on channel c before which the run wrote k times on c
+pub record IsWrite {B S P : Type 0} (r : Reaction S P) (plan : Plan B S P) (until : ℕ) (kept : Key → Bool) (c k : ℕ) (d : Event P) : Type 0 where
+  pub within : ℕ
+  pub is : slice_get (writes_on r plan until kept c within) k ≡ Some d
 
 -- every write of the run on channel c with a time below `bound` is one of the first n
 abbrev pub IsPromise : {B S P : Type 0} → Reaction S P → Plan B S P → ℕ → (Key → Bool) → ℕ → ℕ → ℕ → Type 0

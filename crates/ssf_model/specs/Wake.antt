@@ -1,5 +1,5 @@
 -- The wake rule's words: which process an event wakes, and when a wait ends by itself.
-use Rattle.std.specs.Prelude.{ℕ, ◌≡◌, ◌<◌, Bool, true, false, cond, ◌&&◌, nat_eq, max, List, [], ◌∷◌, Option, Some, None, IsSome}
+use Rattle.std.specs.Prelude.{ℕ, Bool, false, nat_eq, max, Option, Some, None, IsSome}
 use Rattle.std.specs.List.{list_any}
 use Rattle.ssf_model.specs.declared.wait.Wait.{Wait}
 use Rattle.ssf_model.specs.declared.wait.Wait.TheVariants.{On, For, OnFor, Forever}

@@ -4,6 +4,7 @@
 ghost use Rattle.std.specs.Prelude.{◌≡◌, ◌+◌, ◌<◌, ◌≤◌, ◌^◌, ◌⊎◌, ◌++◌, length, map, replicate, IfOk, IfErr, OnErr, Some, None};
 ghost use Rattle.std.specs.List.{range_with_len};
 ghost use Rattle.ssf_model.specs.Reaction.{Each};
+ghost use Rattle.ssf_model.specs.Run.{Fits};
 ghost use Rattle.ssf_model.specs.Drafts.{MostChannels, channels_of, timers, all_timers, empty_draft, with_entity, with_in_channel, with_out_channel, with_mapping, entity_refusal, in_channel_refusal, out_channel_refusal, mapping_refusal, start, with_channels, planned, IsValidDraft, first_processes as first_processes_of, first_entities as first_entities_of};
 
 use crate::{Behaviour, Entity, Event, Kind, Mapping, Plan, Process, Wait};
@@ -79,13 +80,14 @@ pub struct PlanBuilder<B: Behaviour> {
 }
 
 impl<B: Behaviour> Model for PlanBuilder<B> {
-    ghost use Rattle.ssf_model.specs.Drafts.{Draft, IsInRange};
+    ghost use Rattle.ssf_model.specs.Drafts.{Draft};
+    ghost use Rattle.ssf_model.specs.Owners.{IsDraft};
 
     ghost Value = { Draft B B.State };
 
     ghost view = { λ b. record { behaviour = b.behaviour; entities = b.entities.items; in_owners = b.in_owners.items; outs = b.outs.items; mappings = b.mappings.items } };
 
-    ghost invariant = { λ b. IsInRange b.timers (record { behaviour = b.behaviour; entities = b.entities.items; in_owners = b.in_owners.items; outs = b.outs.items; mappings = b.mappings.items }) };
+    ghost invariant = { λ b. IsDraft b.timers (record { behaviour = b.behaviour; entities = b.entities.items; in_owners = b.in_owners.items; outs = b.outs.items; mappings = b.mappings.items }) };
 }
 
 impl<B: Behaviour> PlanBuilder<B> {
@@ -153,9 +155,9 @@ impl<B: Behaviour> PlanBuilder<B> {
             return Err(BuildFault::TooManyChannels);
         }
         let place = self.in_owners.len() as u32;
-        if self.in_owners.push(entity).is_err() {
+        let Ok(()) = self.in_owners.push(entity) else {
             return Err(BuildFault::Memory);
-        }
+        };
         let draft = &mut self.entities[entity as usize];
         match draft.in_channels.push(place) {
             Ok(()) => Ok(place),
@@ -182,9 +184,9 @@ impl<B: Behaviour> PlanBuilder<B> {
             return Err(BuildFault::TooManyChannels);
         }
         let place = self.outs.len() as u32;
-        if self.outs.push(OutChannel { entity, delay }).is_err() {
+        let Ok(()) = self.outs.push(OutChannel { entity, delay }) else {
             return Err(BuildFault::Memory);
-        }
+        };
         let draft = &mut self.entities[entity as usize];
         match draft.out_channels.push(place) {
             Ok(()) => Ok(place),
@@ -244,10 +246,10 @@ impl<B: Behaviour> PlanBuilder<B> {
             delay: total,
             priority,
         };
-        match self.mappings.push(mapping) {
-            Ok(()) => Ok(place),
-            Err(_) => Err(BuildFault::Memory),
-        }
+        let Ok(()) = self.mappings.push(mapping) else {
+            return Err(BuildFault::Memory);
+        };
+        Ok(place)
     }
 
     /// The plan of what was made. Its channels are the start channels by entity, then the timer
@@ -257,7 +259,8 @@ impl<B: Behaviour> PlanBuilder<B> {
     #[tactic(auto, unfolding(crate::specs::Drafts::planned))]
     pub fn finish(self) -> Result<Plan<B>, Memory>
         requires { Each (IsValidDraft (B.valid self.behaviour)) self.entities }
-        ensures { IfOk result (λ plan. plan ≡ planned self) }
+        ensures plan { IfOk result (λ plan. plan ≡ planned self) }
+        ensures fits { IfOk result (λ plan. Fits (B.valid self.behaviour) (B.carried self.behaviour) plan) }
     {
         let PlanBuilder {
             alloc,

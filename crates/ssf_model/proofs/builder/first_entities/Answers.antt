@@ -1,6 +1,5 @@
 use Rattle.std.proofs.Common.{◌≡◌, ◌∙◌, ◌+◌, ◌++◌, ◌∷◌, [], List, Bool, ap}
 use Rattle.ssf_model.specs.declared.process.Process.{Process}
-use Rattle.ssf_model.specs.declared.entity.Entity.{Entity}
 use Rattle.ssf_model.specs.Drafts.{timers, first_entity, first_processes}
 use Rattle.ssf_model.proofs.Drafted.{entities_next}
 use Rattle.ssf_model.proofs.builder.first_entities.Goals as goal

@@ -1,4 +1,3 @@
-use Rattle.std.proofs.Common.{◌≡◌}
 use Rattle.ssf_model.proofs.Drafted.{channels_next}
 use Rattle.ssf_model.proofs.builder.numbered.Goals as goal
 

@@ -1,5 +1,5 @@
-use Rattle.std.proofs.Common.{◌≡◌, ◌<◌, length, arith}
-use Rattle.ssf_model.proofs.Delivering.{ready_at, ticket_ahead, delivering_next, halfway_done}
+use Rattle.std.proofs.Common.{◌<◌, length, arith}
+use Rattle.ssf_model.proofs.Delivering.{ready_at, ticket_ahead, delivering_next}
 use Rattle.ssf_model.proofs.entity.Entity.deliver.Goals as goal
 
 pub react-requires-clause-ready : goal.react-requires-clause-ready
