@@ -5,3 +5,4 @@ pub mod Along
 pub mod Shares
 pub mod OfFitting
 pub mod Grouped
+pub mod ByPlace

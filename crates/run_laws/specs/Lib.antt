@@ -1,3 +1,4 @@
 pub mod Joined
 pub mod Openings
 pub mod Groups
+pub mod Writes

@@ -2,21 +2,23 @@
 //! `kept` the cut: a test on keys, and a write whose key does not pass it is counted and does not
 //! become pending.
 
-ghost use Rattle.std.specs.Prelude.{◌≡◌, ◌⊎◌, ℕ, ◌+◌, ◌<◌, ◌≤◌, Bool, length, Some, None};
+ghost use Rattle.std.specs.Prelude.{◌≡◌, ◌⊎◌, ℕ, ◌+◌, ◌<◌, ◌≤◌, Bool, true, length, Some, None, slice_get};
 ghost use Rattle.event_order.specs.declared.key.Key.{Key as KeyValue};
 ghost use Rattle.event_order.specs.Order.{IsBefore};
 ghost use Rattle.event_order.specs.Pending.{Among, IsRising};
 ghost use Rattle.event_machine.specs.Machine.{within, all_kept};
 ghost use Rattle.event_machine.specs.Run.{WrittenBefore, ExecutedWithin, Arises, Chain, share, acted};
 ghost use Rattle.ssf_model.specs.declared.event.Event.{Event};
+ghost use Rattle.ssf_model.specs.declared.event.Parcel.{Parcel};
 ghost use Rattle.ssf_model.specs.declared.plan.Plan.{Plan};
 ghost use Rattle.ssf_model.specs.Reaction.{LatestTime};
-ghost use Rattle.ssf_model.specs.Truth.{line_events};
-ghost use Rattle.ssf_model.specs.Run.{Fits, machine_of, opening, run_event, run_events, run_entries, world_after};
+ghost use Rattle.ssf_model.specs.Truth.{line_events, writes_on, IsWrite, IsPromise, IsTrueParcel};
+ghost use Rattle.ssf_model.specs.Run.{Fits, counts_of, machine_of, opening, run_event, run_events, run_entries, world_after};
 ghost use Rattle.ssf_model.specs.Drafts.{Draft, planned};
 ghost use Rattle.run_laws.specs.Joined.{IsWriteOf, IsPassedOn, IsAligned};
 ghost use Rattle.run_laws.specs.Groups.{IsSameGroup, is_own};
 ghost use Rattle.run_laws.specs.Openings.{OpensInOrder};
+ghost use Rattle.run_laws.specs.Writes.{IsRunWrite};
 
 use ssf_model::Behaviour;
 
@@ -131,4 +133,62 @@ pub fn few_events_are_not_cut<B: Behaviour>()
     ensures whole_entries { (b : B) (plan : Plan B B.State B.Payload) (until : ℕ) (line : ℕ → ℕ) → Fits (B.valid b) (B.carried b) plan → until ≤ LatestTime → IsAligned plan line
         → (R most : ℕ) → most ≤ R → ((i n : ℕ) → length (line_events (B.reaction b) plan until all_kept line i n) ≤ most)
         → (n : ℕ) → run_entries (B.reaction b) plan until (within R) n ≡ run_entries (B.reaction b) plan until all_kept n }
+{}
+
+/// A channel's count is that of the opening and one more for each write on it, whether the cut keeps
+/// it or not.
+pub fn channels_count_their_writes<B: Behaviour>()
+    ensures { (b : B) (plan : Plan B B.State B.Payload) (until : ℕ) (kept : KeyValue → Bool) (c n : ℕ)
+        → (world_after (B.reaction b) plan until kept n).state.counts c ≡ counts_of plan.counts c + length (writes_on (B.reaction b) plan until kept c n) }
+{}
+
+/// The write on channel c before which the run wrote k times on it is on channel c, and its number is
+/// the opening's count of c and k together.
+pub fn writes_are_numbered<B: Behaviour>()
+    ensures channel { (b : B) (plan : Plan B B.State B.Payload) (until : ℕ) (kept : KeyValue → Bool) (c k : ℕ) (d : Event B.Payload)
+        → IsWrite (B.reaction b) plan until kept c k d → d.key.channel ≡ c }
+    ensures number { (b : B) (plan : Plan B B.State B.Payload) (until : ℕ) (kept : KeyValue → Bool) (c k : ℕ) (d : Event B.Payload)
+        → IsWrite (B.reaction b) plan until kept c k d → d.key.number ≡ counts_of plan.counts c + k }
+{}
+
+/// A write has one place on its channel, and at one place of a channel stands one write.
+pub fn places_are_apart<B: Behaviour>()
+    ensures place { (b : B) (plan : Plan B B.State B.Payload) (until : ℕ) (kept : KeyValue → Bool) (c j k : ℕ) (d : Event B.Payload)
+        → IsWrite (B.reaction b) plan until kept c j d → IsWrite (B.reaction b) plan until kept c k d → j ≡ k }
+    ensures write { (b : B) (plan : Plan B B.State B.Payload) (until : ℕ) (kept : KeyValue → Bool) (c k : ℕ) (d e : Event B.Payload)
+        → IsWrite (B.reaction b) plan until kept c k d → IsWrite (B.reaction b) plan until kept c k e → d ≡ e }
+{}
+
+/// What some event of a run writes has a place on its channel, and what has a place was written by
+/// some event.
+pub fn writes_have_places<B: Behaviour>()
+    ensures place { (b : B) (plan : Plan B B.State B.Payload) (until : ℕ) (kept : KeyValue → Bool) (d : Event B.Payload)
+        → IsRunWrite (B.reaction b) plan until kept d → (k : ℕ) × IsWrite (B.reaction b) plan until kept d.key.channel k d }
+    ensures written { (b : B) (plan : Plan B B.State B.Payload) (until : ℕ) (kept : KeyValue → Bool) (c k : ℕ) (d : Event B.Payload)
+        → IsWrite (B.reaction b) plan until kept c k d → IsRunWrite (B.reaction b) plan until kept d }
+{}
+
+/// A promise of channel c, with a bound and a count n, holds exactly where each write of the run on c
+/// at a time below the bound has a number below the sum of the opening's count of c and n.
+pub fn promises_bound_numbers<B: Behaviour>()
+    ensures tells { (b : B) (plan : Plan B B.State B.Payload) (until : ℕ) (kept : KeyValue → Bool) (c bound n : ℕ) → IsPromise (B.reaction b) plan until kept c bound n
+        → (d : Event B.Payload) → IsRunWrite (B.reaction b) plan until kept d → d.key.channel ≡ c → d.key.time < bound → d.key.number < counts_of plan.counts c + n }
+    ensures told { (b : B) (plan : Plan B B.State B.Payload) (until : ℕ) (kept : KeyValue → Bool) (c bound n : ℕ)
+        → ((d : Event B.Payload) → IsRunWrite (B.reaction b) plan until kept d → d.key.channel ≡ c → d.key.time < bound → d.key.number < counts_of plan.counts c + n)
+        → IsPromise (B.reaction b) plan until kept c bound n }
+{}
+
+/// Two true parcels of one channel have the same event at the same place of the channel.
+pub fn true_parcels_agree<B: Behaviour>()
+    ensures { (b : B) (plan : Plan B B.State B.Payload) (until : ℕ) (kept : KeyValue → Bool) (first second : Bool) (c : ℕ) (p q : Parcel B.Payload)
+        → IsTrueParcel (B.reaction b) plan until kept first c p → IsTrueParcel (B.reaction b) plan until kept second c q
+        → (i j : ℕ) (d e : Event B.Payload) → p.first + i ≡ q.first + j → slice_get p.events i ≡ Some d → slice_get q.events j ≡ Some e → d ≡ e }
+{}
+
+/// A true parcel of an appointed channel leaves nothing out: each write of the run on the channel at a
+/// time below the parcel's promise went before the parcel, by its number, or is one of its events.
+pub fn true_parcels_are_whole<B: Behaviour>()
+    ensures { (b : B) (plan : Plan B B.State B.Payload) (until : ℕ) (kept : KeyValue → Bool) (c : ℕ) (parcel : Parcel B.Payload) → IsTrueParcel (B.reaction b) plan until kept true c parcel
+        → (d : Event B.Payload) → IsRunWrite (B.reaction b) plan until kept d → d.key.channel ≡ c → d.key.time < parcel.promise
+        → (d.key.number < counts_of plan.counts c + parcel.first) ⊎ Among d parcel.events }
 {}
