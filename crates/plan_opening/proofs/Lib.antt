@@ -1,4 +1,2 @@
 pub mod Named
-pub mod Openings
 pub mod Rings
-pub mod RingsFit

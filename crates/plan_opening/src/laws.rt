@@ -4,7 +4,7 @@ ghost use Rattle.event_machine.specs.Machine.{within};
 ghost use Rattle.ssf_model.specs.declared.event.Entry.{Entry};
 ghost use Rattle.ssf_model.specs.declared.plan.Plan.{Plan};
 ghost use Rattle.ssf_model.specs.Reaction.{Each, LatestTime};
-ghost use Rattle.ssf_model.specs.Drafts.{Draft, IsValidDraft, planned};
+ghost use Rattle.ssf_model.specs.Drafts.{IsValidDraft, planned};
 ghost use Rattle.ssf_model.specs.Run.{Fits};
 ghost use Rattle.ring_model.specs.declared.ring.Ring.{Ring};
 ghost use Rattle.ring_model.specs.declared.ring.RingPayload.{RingPayload};
@@ -13,25 +13,12 @@ ghost use Rattle.ring_model.specs.Reacting.{IsRing, AnyPayload};
 ghost use Rattle.ring_model.specs.Rings.{ring_draft, with_hops, ring_refusal};
 ghost use Rattle.global_list.specs.Entries.{run_entries};
 ghost use Rattle.global_list.specs.Healthy.{IsRunnable};
-ghost use Rattle.plan_opening.specs.Placed.{IsWhole};
 
 use ssf_model::Behaviour;
 
-/// The plan of a whole draft can be run.
-pub fn whole_drafts_can_run<B: Behaviour>()
-    ensures { (b : B) (timed : ℕ) (draft : Draft B B.State) → IsWhole (B.valid b) timed draft → IsRunnable (B.valid b) (B.carried b) (planned {P = B.Payload} draft) }
-{}
-
-/// The plan of a ring that was not refused can be run.
-pub fn rings_can_run()
-    ensures { (ring : Ring) (nodes : ℕ) (tokens : List ℕ) (hops : List Hop) → All (λ (h : Hop). (h.from < nodes) × (h.to < nodes)) hops
-        → ring_refusal ring nodes tokens hops ≡ None → Each (IsValidDraft IsRing) (with_hops (ring_draft ring nodes tokens) hops).entities
-        → IsRunnable IsRing AnyPayload (planned {P = RingPayload} (with_hops (ring_draft ring nodes tokens) hops)) }
-{}
-
-/// The plan of a ring that was not refused fits.
+/// The plan of a ring that was not refused fits. A hop's priority is one of a byte.
 pub fn rings_fit()
-    ensures { (ring : Ring) (nodes : ℕ) (tokens : List ℕ) (hops : List Hop) → Each (λ (h : Hop). (h.from < nodes) × (h.to < nodes) × (h.priority < 2 ^ 8)) hops
+    ensures { (ring : Ring) (nodes : ℕ) (tokens : List ℕ) (hops : List Hop) → Each (λ (h : Hop). h.priority < 2 ^ 8) hops
         → ring_refusal ring nodes tokens hops ≡ None → Each (IsValidDraft IsRing) (with_hops (ring_draft ring nodes tokens) hops).entities
         → Fits IsRing AnyPayload (planned {P = RingPayload} (with_hops (ring_draft ring nodes tokens) hops)) }
 {}

@@ -1,7 +1,5 @@
-//! That plans can be run: what a finished plan opens with is in order, and the entries of its run
-//! are of entities that there are.
-//!
-//! Contracts cite `specs/Placed.antt` (drafts whose mappings lead to entities that there are).
+//! Laws over plans that can be run: the plan of a ring fits, as each plan that a builder finishes
+//! does, and the entries of a run are of entities that there are.
 #![tactic(auto)]
 
 pub mod laws;
