@@ -8,7 +8,7 @@ use Rattle.ssf_model.specs.declared.event.Event.{Event}
 use Rattle.ssf_model.specs.declared.event.Parcel.{Parcel}
 use Rattle.ssf_model.specs.Drafts.{planned}
 use Rattle.ssf_model.specs.Run.{machine_of}
-use Rattle.ssf_model.specs.Truth.{line_events, IsWrite, IsTrueParcel}
+use Rattle.ssf_model.specs.Truth.{line_events, writes_on, IsWrite, IsTrueParcel}
 use Rattle.ssf_model.proofs.Worked.{key, listens, listening}
 
 its_timeline_has_the_first_events : map (λ (e : Event (Unit {0})). e.key) (line_events listens listening 6 all_kept (λ k. k) 0 3) ≡ key 0 0 0 0 ∷ key 2 0 2 0 ∷ key 2 1 3 0 ∷ []
@@ -18,6 +18,11 @@ its_timeline_has_the_first_events = refl
 another_timeline_has_none : line_events listens listening 6 all_kept (λ k. k) 1 3 ≡ []
 unfolding machine_of comes_before planned listens listening
 another_timeline_has_none = refl
+
+-- the ends of its two waits, of which the run made the first at its start and the second at the message
+its_writes_on_channel_one : map (λ (e : Event (Unit {0})). e.key) (writes_on listens listening 6 all_kept 1 3) ≡ key 4 0 1 0 ∷ key 6 0 1 1 ∷ []
+unfolding machine_of comes_before planned listens listening key
+its_writes_on_channel_one = refl
 
 second_end : Event (Unit {0})
 second_end = record { key = key 6 0 1 1; entity = 0; kind = Timer 0 2 }

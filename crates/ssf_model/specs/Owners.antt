@@ -25,7 +25,8 @@ pub record IsDrawn (ins outs : List ℕ) (m : Mapping) : Type 0 where
   pub delay : m.delay ≤ LongestDelay
   pub priority : m.priority < 2 ^ 8
 
--- each channel of a draft has one owner, and each mapping leads between owners
+-- each channel of a draft has one owner, each mapping leads between owners and has its place as its channel, and no
+-- entity has more processes than 32 bits can number
 pub record HasOwners {B S : Type 0} (d : Draft B S) : Type 0 where
   pub ins : AreOwned (λ e. e.in_channels) d.in_owners d.entities
   pub outs : AreOwned (λ e. e.out_channels) (owners_of d.outs) d.entities
@@ -33,6 +34,7 @@ pub record HasOwners {B S : Type 0} (d : Draft B S) : Type 0 where
   pub places : map (λ m. m.channel) d.mappings ≡ range_with_len 0 (length d.mappings)
   pub few : Each (λ e. length e.timed ≤ 2 ^ 32) d.entities
 
+-- the same as one word, which only the proofs that need its parts open
 unfoldable pub IsOwned : {B S : Type 0} → Draft B S → Type 0
 IsOwned d = HasOwners d
 

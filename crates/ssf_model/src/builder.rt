@@ -255,7 +255,8 @@ impl<B: Behaviour> PlanBuilder<B> {
     /// The plan of what was made. Its channels are the start channels by entity, then the timer
     /// channels by entity and process, then one for each mapping in their order. All tickets are 0,
     /// all processes wait forever, and the start event of each entity is pending, with the number 0
-    /// of its start channel. After `Memory` the builder is gone.
+    /// of its start channel. The plan fits: its parts go together as those of every plan do. After
+    /// `Memory` the builder is gone.
     #[tactic(auto, unfolding(crate::specs::Drafts::planned))]
     pub fn finish(self) -> Result<Plan<B>, Memory>
         requires { Each (IsValidDraft (B.valid self.behaviour)) self.entities }
