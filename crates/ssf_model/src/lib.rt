@@ -7,9 +7,9 @@
 //! Contracts cite `specs/Wake.antt`, `Reaction.antt` and `Deliver.antt` (what wakes a process, what a
 //! behaviour keeps, what an event makes of its entity), `Entities.antt` (entities whose states are
 //! valid), `Output.antt` (what actions write and tell), `Channels.antt` (what the writes of an event
-//! send), `Drafts.antt` (plans that are being made), `Run.antt` (well-formed plans and their runs)
-//! and `Truth.antt` (facts on a run alone: the events of a timeline, the writes of a channel,
-//! promises and true parcels).
+//! send), `Drafts.antt` (plans that are being made), `Owners.antt` (who owns the channels meanwhile),
+//! `Run.antt` (well-formed plans and their runs) and `Truth.antt` (facts on a run alone: the events
+//! of a timeline, the writes of a channel by their place, promises and true parcels).
 #![tactic(auto)]
 
 mod behaviour;
