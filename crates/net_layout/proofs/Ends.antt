@@ -6,7 +6,7 @@ use Rattle.std.proofs.lemmas.List.FromFn.{get_or-range_with_len, length-range_wi
 use Rattle.net_graph.specs.declared.rows.Network.{Network}
 use Rattle.ssf_model.specs.declared.plan.Mapping.{Mapping}
 use Rattle.net_layout.specs.declared.wiring.Wire.{Wire}
-use Rattle.net_layout.specs.Networks.{IsNetwork, numbers, link_at}
+use Rattle.net_graph.specs.Networks.{IsNetwork, numbers, link_at}
 use Rattle.net_layout.specs.Wiring.{poke_wire, link_wire, wires_from, wires_of_link, wires_of, mapping_of, mappings_from, mappings_of, first_channel}
 use Rattle.net_layout.proofs.Graphs.{All_numbered}
 use Rattle.net_layout.proofs.Finding.{All_remove}

@@ -8,7 +8,7 @@ use Rattle.ip_blocks.specs.declared.block.Block.{Block}
 use Rattle.ip_blocks.specs.Blocks.{BlockLists}
 use Rattle.spf_routes.specs.declared.graph.Arm.{Arm}
 use Rattle.spf_routes.specs.Walks.{IsGraph}
-use Rattle.net_layout.specs.Networks.{IsNetwork, host_at, interface_at, link_at}
+use Rattle.net_graph.specs.Networks.{IsNetwork, host_at, interface_at, link_at}
 use Rattle.net_layout.specs.Periods.{is_up}
 use Rattle.net_layout.specs.Addresses.{AreBlocks}
 use Rattle.net_layout.specs.Arms.{arm_at, arm_on, arm_of, arms_of}

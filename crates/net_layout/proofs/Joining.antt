@@ -5,7 +5,7 @@ use Rattle.std.proofs.lemmas.List.{get_or_past}
 use Rattle.std.proofs.lemmas.List.Elements.{All-nil, All-append, All-map}
 use Rattle.std.proofs.lemmas.Bool.{cases_lt}
 use Rattle.net_graph.specs.declared.rows.Network.{Network}
-use Rattle.net_layout.specs.Networks.{IsNetwork, no_interface, no_link, numbers, interface_at, link_at}
+use Rattle.net_graph.specs.Networks.{IsNetwork, no_interface, no_link, numbers, interface_at, link_at}
 use Rattle.std.proofs.lemmas.List.{map-append, map_more, drop_more, drop_all, append-nil}
 use Rattle.ssf_model.specs.declared.plan.Mapping.{Mapping}
 use Rattle.net_layout.specs.declared.wiring.Wire.{Wire}

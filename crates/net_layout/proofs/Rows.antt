@@ -4,7 +4,7 @@ use Rattle.std.proofs.lemmas.List.{get_or_read, get_or-map, length-map}
 use Rattle.net_graph.specs.declared.rows.Network.{Network}
 use Rattle.net_graph.specs.declared.rows.LinkRow.{LinkRow}
 use Rattle.net_graph.specs.declared.rows.NetRow.{NetRow}
-use Rattle.net_layout.specs.Networks.{no_link, no_net, link_at, net_at, link_size, link_sizes}
+use Rattle.net_graph.specs.Networks.{no_link, no_net, link_at, net_at, link_size, link_sizes}
 use Rattle.net_layout.specs.Addresses.{AreBlocks}
 use Rattle.ip_blocks.specs.declared.layout.LinkSize.{LinkSize}
 use Rattle.ip_blocks.specs.Blocks.{BlockLists}

@@ -4,7 +4,7 @@ use Rattle.std.specs.Option.{option_map}
 use Rattle.net_graph.specs.declared.rows.Network.{Network}
 use Rattle.ip_blocks.specs.Blocks.{BlockLists, blocks_of, top_size}
 use Rattle.ip_blocks.specs.Apart.{address_of, HasRoom}
-use Rattle.net_layout.specs.Networks.{link_sizes, net_parents, attachment_of}
+use Rattle.net_graph.specs.Networks.{link_sizes, net_parents, attachment_of}
 
 unfoldable pub network_blocks : Network → BlockLists
 network_blocks network = blocks_of (link_sizes network) (net_parents network)

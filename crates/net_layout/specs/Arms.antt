@@ -6,7 +6,7 @@ use Rattle.net_graph.specs.declared.rows.InterfaceRow.{InterfaceRow}
 use Rattle.ip_blocks.specs.Apart.{address_of}
 use Rattle.spf_routes.specs.declared.graph.Arm.{Arm}
 use Rattle.spf_routes.specs.declared.graph.Graph.{Graph}
-use Rattle.net_layout.specs.Networks.{numbers, host_at, interface_at, link_at}
+use Rattle.net_graph.specs.Networks.{numbers, host_at, interface_at, link_at}
 use Rattle.net_layout.specs.Periods.{is_up}
 use Rattle.net_layout.specs.Addresses.{network_blocks}
 

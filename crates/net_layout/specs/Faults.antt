@@ -13,7 +13,7 @@ use Rattle.net_graph.specs.declared.fault.ShapeFault.{ShapeFault}
 use Rattle.net_graph.specs.declared.fault.ShapeFault.TheVariants.{TooMany, NoSpace, DelayTooLong, TooManyChannels}
 use Rattle.ssf_model.specs.Reaction.{LongestDelay}
 use Rattle.ssf_model.specs.Drafts.{MostChannels}
-use Rattle.net_layout.specs.Networks.{numbers, link_at}
+use Rattle.net_graph.specs.Networks.{numbers, link_at}
 use Rattle.net_layout.specs.Periods.{periods_of}
 use Rattle.net_layout.specs.Addresses.{addresses_needed}
 use Rattle.net_layout.specs.Wiring.{is_client, first_channel, wires_of}

@@ -5,7 +5,7 @@ use Rattle.std.specs.List.{find, remove}
 use Rattle.net_graph.specs.declared.rows.Network.{Network}
 use Rattle.net_graph.specs.declared.rows.Gateway.{Gateway}
 use Rattle.spf_routes.specs.declared.graph.Route.{Route}
-use Rattle.net_layout.specs.Networks.{host_at, interface_at, link_at, attachment_of}
+use Rattle.net_graph.specs.Networks.{host_at, interface_at, link_at, attachment_of}
 use Rattle.net_layout.specs.Addresses.{interface_address}
 use Rattle.net_layout.specs.Arms.{place_of}
 

@@ -1,4 +1,3 @@
-pub mod Networks
 pub mod Periods
 pub mod Addresses
 pub mod Arms

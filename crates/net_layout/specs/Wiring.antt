@@ -9,7 +9,7 @@ use Rattle.net_graph.specs.declared.rows.SessionRow.{SessionRow}
 use Rattle.net_graph.specs.declared.rows.SessionKind.{SessionKind}
 use Rattle.net_graph.specs.declared.rows.SessionKind.TheVariants.{Silent, Ospf, Tcp, Client, Server}
 use Rattle.ssf_model.specs.declared.plan.Mapping.{Mapping}
-use Rattle.net_layout.specs.Networks.{numbers, interface_at, link_at}
+use Rattle.net_graph.specs.Networks.{numbers, interface_at, link_at}
 use Rattle.net_layout.specs.Arms.{first_interface}
 use Rattle.net_layout.specs.declared.wiring.Wire.{Wire}
 

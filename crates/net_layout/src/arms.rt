@@ -1,7 +1,7 @@
 //! The interfaces of hosts, and the graph of a period.
 ghost use Rattle.std.specs.Prelude.{◌≡◌, ◌<◌, ◌≤◌, ◌++◌, length, IfOk, OnOk};
 ghost use Rattle.spf_routes.specs.Walks.{IsGraph};
-ghost use Rattle.net_layout.specs.Networks.{IsNetwork, link_at, attachment_of};
+ghost use Rattle.net_graph.specs.Networks.{IsNetwork, link_at, attachment_of};
 ghost use Rattle.net_layout.specs.Addresses.{AreBlocks, address_in};
 ghost use Rattle.net_layout.specs.Arms.{first_interface, place_of, arm_at, arm_of, arms_of, graph_of};
 

@@ -2,7 +2,7 @@
 ghost use Rattle.std.specs.Prelude.{◌≡◌, ◌<◌, length, All, IfOk, IfSome};
 ghost use Rattle.std.specs.Option.{ForSome, unwrap_or};
 ghost use Rattle.std.specs.List.{find, remove};
-ghost use Rattle.net_layout.specs.Networks.{IsNetwork, IsGateway, host_at, interface_at, link_at};
+ghost use Rattle.net_graph.specs.Networks.{IsNetwork, IsGateway, host_at, interface_at, link_at};
 ghost use Rattle.net_layout.specs.Addresses.{AreBlocks};
 ghost use Rattle.net_layout.specs.Gateways.{belongs_to_router, others_of, next_hop, default_route, route_by, gateway_route};
 

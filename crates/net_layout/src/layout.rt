@@ -1,6 +1,6 @@
 //! The blocks and periods of a network, or the first fault that keeps it from having a plan.
 ghost use Rattle.std.specs.Prelude.{◌≡◌, ◌⊎◌, true, false, map, None, Some, IfOk, IfErr, OnOk};
-ghost use Rattle.net_layout.specs.Networks.{IsNetwork, link_sizes, net_parents};
+ghost use Rattle.net_graph.specs.Networks.{IsNetwork, link_sizes, net_parents};
 ghost use Rattle.net_layout.specs.Periods.{periods_of};
 ghost use Rattle.net_layout.specs.Addresses.{AreBlocks};
 ghost use Rattle.net_layout.specs.Faults.{first_fault, has_no_space};

@@ -2,7 +2,7 @@
 //! stay up or down, its address blocks, the graph of each period for least routes, default routes,
 //! and the channels and mappings.
 //!
-//! Contracts cite `specs/Networks.antt` (what every network of a resolved tree meets),
+//! Contracts cite the specs of `net_graph` on networks (what every network of a resolved tree meets),
 //! `specs/Periods.antt`, `specs/Addresses.antt`, `specs/Arms.antt` (the graph of a period),
 //! `specs/Gateways.antt` (default routes), `specs/Wiring.antt` (channels and mappings) and
 //! `specs/Faults.antt` (the first fault).

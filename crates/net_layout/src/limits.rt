@@ -1,7 +1,7 @@
 //! The limits that a network has to keep for its plan.
 ghost use Rattle.std.specs.Prelude.{◌≡◌, ◌<◌, ◌≤◌, ◌*◌, ◌+◌, ◌-◌, ◌/◌, ◌^◌, ℕ, length, vec_len, slice_index, slice_set, nat_lt, IfOk};
 ghost use Rattle.std.specs.List.{list_any};
-ghost use Rattle.net_layout.specs.Networks.{IsNetwork, link_at, interface_at};
+ghost use Rattle.net_graph.specs.Networks.{IsNetwork, link_at, interface_at};
 ghost use Rattle.net_layout.specs.Periods.{periods_of};
 ghost use Rattle.net_graph.specs.declared.rows.InterfaceRow.{InterfaceRow};
 ghost use Rattle.net_graph.specs.declared.rows.SessionRow.{SessionRow};

@@ -3,7 +3,7 @@ ghost use Rattle.std.specs.Prelude.{◌≡◌, ◌<◌, ◌≤◌, ◌+◌, ◌^
 ghost use Rattle.std.specs.List.{flat_map};
 ghost use Rattle.ssf_model.specs.Drafts.{MostChannels};
 ghost use Rattle.ssf_model.specs.declared.plan.Mapping.{Mapping};
-ghost use Rattle.net_layout.specs.Networks.{IsNetwork, numbers, link_at};
+ghost use Rattle.net_graph.specs.Networks.{IsNetwork, numbers, link_at};
 ghost use Rattle.net_layout.specs.Wiring.{wires_of, wires_of_link, wires_between, link_wire, poke_wire, first_channel, mappings_of, mappings_from, mapping_of, is_client, IsShortWire};
 
 use crate::arms::first_interface;

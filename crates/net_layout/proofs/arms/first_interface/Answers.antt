@@ -4,7 +4,7 @@ use Rattle.std.specs.List.Sorted.{IsNonDecreasingBy}
 use Rattle.std.proofs.lemmas.List.Sums.{prefix_len_is}
 use Rattle.std.proofs.lemmas.List.Sorted.{IsPartitionPoint-from_clause, IsPartitionedBy-ltb}
 use Rattle.net_graph.specs.declared.rows.InterfaceRow.{InterfaceRow}
-use Rattle.net_layout.specs.Networks.{no_interface}
+use Rattle.net_graph.specs.Networks.{no_interface}
 use Rattle.net_layout.specs.Arms.{first_interface}
 use Rattle.net_layout.proofs.arms.first_interface.Goals as goal
 

@@ -5,7 +5,7 @@ use Rattle.ip_blocks.specs.declared.layout.LinkSize.{LinkSize}
 use Rattle.ip_blocks.specs.declared.layout.NetParent.{NetParent}
 use Rattle.ip_blocks.specs.Blocks.{blocks_of, top_size}
 use Rattle.ip_blocks.specs.Apart.{HasRoom}
-use Rattle.net_layout.specs.Networks.{link_size, net_parent, link_sizes, net_parents}
+use Rattle.net_graph.specs.Networks.{link_size, net_parent, link_sizes, net_parents}
 use Rattle.net_layout.specs.Addresses.{network_blocks, addresses_needed}
 use Rattle.net_layout.specs.Faults.{has_no_space}
 use Rattle.net_layout.proofs.layout.network_blocks.Goals as goal

@@ -1,6 +1,6 @@
 use Rattle.std.proofs.Common.{◌≡◌, ◌+◌, ◌-◌, ◌*◌, ℕ, ltb, length, sym, ap, ◌∙◌, arith}
 use Rattle.std.proofs.lemmas.Bool.{lt-ltb}
-use Rattle.net_layout.specs.Networks.{link_at}
+use Rattle.net_graph.specs.Networks.{link_at}
 use Rattle.net_layout.specs.Wiring.{wires_of, first_channel}
 use Rattle.net_layout.specs.Faults.{has_many_channels}
 use Rattle.net_layout.proofs.Counting.{channels_more, channels_part, channels_all, many_attached}

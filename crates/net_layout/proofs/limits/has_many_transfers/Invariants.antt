@@ -1,6 +1,6 @@
 use Rattle.std.proofs.Common.{◌≡◌, ◌*◌, ltb, false}
 use Rattle.std.specs.List.{list_any}
-use Rattle.net_layout.specs.Networks.{numbers}
+use Rattle.net_graph.specs.Networks.{numbers}
 use Rattle.net_layout.specs.Faults.{clients_of, servers_of}
 use Rattle.net_layout.proofs.limits.has_many_transfers.Given as goal
 

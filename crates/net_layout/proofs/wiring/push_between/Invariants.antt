@@ -1,6 +1,6 @@
 use Rattle.std.proofs.Common.{◌≡◌, ◌++◌}
 use Rattle.std.specs.List.{flat_map}
-use Rattle.net_layout.specs.Networks.{numbers}
+use Rattle.net_graph.specs.Networks.{numbers}
 use Rattle.net_layout.specs.Wiring.{wires_from}
 use Rattle.net_layout.proofs.wiring.push_between.Given as goal
 

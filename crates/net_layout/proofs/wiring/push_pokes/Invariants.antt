@@ -1,5 +1,5 @@
 use Rattle.std.proofs.Common.{◌≡◌, ◌++◌, map}
-use Rattle.net_layout.specs.Networks.{numbers}
+use Rattle.net_graph.specs.Networks.{numbers}
 use Rattle.net_layout.specs.Wiring.{poke_wire}
 use Rattle.net_layout.proofs.wiring.push_pokes.Given as goal
 

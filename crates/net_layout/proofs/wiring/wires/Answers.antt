@@ -1,7 +1,7 @@
 use Rattle.std.proofs.Common.{◌≡◌, ◌∙◌, ◌++◌, ap, map, length, arith}
 use Rattle.std.specs.List.{flat_map}
 use Rattle.std.proofs.lemmas.List.Elements.{All-same}
-use Rattle.net_layout.specs.Networks.{numbers}
+use Rattle.net_graph.specs.Networks.{numbers}
 use Rattle.net_layout.specs.Wiring.{poke_wire, wires_of_link, wires_of, IsShortWire}
 use Rattle.net_layout.proofs.Numbered.{flat_map_next}
 use Rattle.net_layout.proofs.Joining.{wires_short}

@@ -1,6 +1,6 @@
 use Rattle.std.proofs.Common.{◌≡◌, ◌++◌, map, length}
 use Rattle.std.specs.List.{flat_map}
-use Rattle.net_layout.specs.Networks.{numbers}
+use Rattle.net_graph.specs.Networks.{numbers}
 use Rattle.net_layout.specs.Wiring.{poke_wire, wires_of_link}
 use Rattle.net_layout.proofs.wiring.wires.Given as goal
 
