@@ -1,0 +1,12 @@
+pub mod Ranges
+pub mod Names
+pub mod Places
+pub mod Hosts
+pub mod Parts
+pub mod Growing
+pub mod Along
+pub mod Attached
+pub mod Numbered
+pub mod Gateways
+pub mod Servers
+pub mod Lawful
