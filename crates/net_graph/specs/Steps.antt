@@ -1,17 +1,20 @@
 -- How what the walk has met grows visit by visit.
-use Rattle.std.specs.Prelude.{ℕ, Bool, false, ◌+◌, ◌≤◌, ◌||◌, List, [], ◌∷◌, ◌++◌, length, Option, Some, None, Ok, Err, codes}
+use Rattle.std.specs.Prelude.{ℕ, Bool, false, ◌≡◌, ◌+◌, ◌≤◌, ◌||◌, List, [], ◌∷◌, ◌++◌, length, Option, Some, None, Ok, Err, codes}
+use Rattle.std.specs.List.{All}
+use Rattle.std.specs.Option.{ForSome}
 use Rattle.dml_tree.specs.declared.tree.Attribute.{Attribute}
 use Rattle.dml_tree.specs.declared.tree.Value.{Value}
 use Rattle.dml_tree.specs.declared.tree.Value.TheVariants as value
 use Rattle.dml_tree.specs.Attributes.{Attributes}
 use Rattle.dml_tree.specs.TreeView.{attributes}
-use Rattle.nhi_address.specs.NhiFields.{NhiFields}
+use Rattle.nhi_address.specs.NhiFields.{NhiFields, IsId}
 use Rattle.net_graph.specs.declared.fault.ShapeFault.{ShapeFault}
 use Rattle.net_graph.specs.declared.list_keys.GatewayKeys.{GatewayKeys}
 use Rattle.net_graph.specs.declared.list_keys.InterfaceKeys.{InterfaceKeys}
 use Rattle.net_graph.specs.declared.list_keys.LinkKeys.{LinkKeys}
 use Rattle.net_graph.specs.declared.list_keys.ServerKeys.{ServerKeys}
 use Rattle.net_graph.specs.declared.list_keys.SessionKeys.{SessionKeys}
+use Rattle.net_graph.specs.declared.seen.HostSeen.{HostSeen}
 use Rattle.net_graph.specs.declared.seen.Seen.{Seen}
 use Rattle.net_graph.specs.declared.seen.TrafficSeen.TheVariants as traffic
 use Rattle.net_graph.specs.Keys.{lists_of, first_of}
@@ -119,12 +122,21 @@ unfoldable pub walked : ℕ → Seen → List Visit → Read Seen
 walked frequency w [] = Ok w
 walked frequency w (v ∷ vs) = then_read (visited frequency w v) (λ more. walked frequency more vs)
 
--- at most 65,536 Nets, hosts and links, and 64 times in which a link is down
+-- the ids that a host's address and its default route name are in their range
+pub record HasIds (host : HostSeen) : Type 0 where
+  pub own : IsId host.id
+  pub gateway : ForSome host.gateway (λ (k : GatewayKeys). IsId k.interface)
+
+-- at most 65,536 Nets, hosts and links, 131,072 interfaces, each with a name, and 64 times in which
+-- a link is down; the ids of hosts are in their range
 pub record IsFew (w : Seen) : Type 0 where
   pub nets : length w.net_names ≤ 65536
   pub hosts : length w.host_names ≤ 65536
   pub links : length w.links ≤ 65536
   pub downs : w.downs ≤ 64
+  pub interfaces : length w.interface_names ≤ 131072
+  pub rows : length w.interfaces ≡ length w.interface_names
+  pub ids : All HasIds w.hosts
 
 -- how many links and Nets there are
 abbrev pub kids : Seen → ℕ

@@ -187,6 +187,7 @@ impl Seen {
     ) -> Result<IdPath, ShapeFault>
         requires few { IsFew self.old }
         requires id { IsId id }
+        requires gateway { ForSome gateway.now (λ keys. IsId keys.interface) }
         ensures fine { OnOk result (host_fault self.old net.now id ≡ None) }
         ensures added { OnOk result (self.new ≡ with_host self.old net.now id router gateway.now) }
         ensures ids { IfOk result (λ ids. ids ≡ net.now ++ id ∷ []) }

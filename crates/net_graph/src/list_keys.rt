@@ -328,6 +328,7 @@ fn read_next_hop(alloc: Global, route: &Tree) -> Result<Option<Nhi>, ShapeFault>
 /// The keys of a default route.
 fn read_route(alloc: Global, route: &Tree) -> Result<GatewayKeys, ShapeFault>
     ensures read { IfOk result (λ keys. route_of (attributes route.now) ≡ Ok keys) }
+    ensures range { IfOk result (λ keys. keys.interface < 2147483648) }
     ensures cause { IfErr result (λ fault. (fault ≡ ShapeFault.Memory) ⊎ (route_of (attributes route.now) ≡ Err fault)) }
 {
     let interface = needed_number(alloc, route, b"interface", 0, ID_END)? as u32;
@@ -338,6 +339,7 @@ fn read_route(alloc: Global, route: &Tree) -> Result<GatewayKeys, ShapeFault>
 /// The default route of a host or router.
 pub fn read_gateway(alloc: Global, host: &Tree) -> Result<Option<GatewayKeys>, ShapeFault>
     ensures read { IfOk result (λ keys. gateway_of (attributes host.now) ≡ Ok keys) }
+    ensures range { IfOk result (λ keys. ForSome keys (λ k. k.interface < 2147483648)) }
     ensures cause { IfErr result (λ fault. (fault ≡ ShapeFault.Memory) ⊎ (gateway_of (attributes host.now) ≡ Err fault)) }
 {
     match default_route(alloc, host)? {

@@ -2,7 +2,7 @@
 //! walks over, or `Memory`.
 ghost use Rattle.std.specs.Prelude.{◌≡◌, ◌+◌, ◌-◌, ◌≤◌, ◌<◌, ◌⊎◌, ◌++◌, [], ◌∷◌, length, None, Some, Ok, Err, false, IfOk, IfErr, OnOk, codes};
 ghost use Rattle.std.specs.List.{flat_map};
-ghost use Rattle.std.specs.Option.{option_copied};
+ghost use Rattle.std.specs.Option.{ForSome, option_copied};
 ghost use Rattle.dml_tree.specs.TreeView.{attributes};
 ghost use Rattle.nhi_address.specs.NhiFields.{IsId};
 ghost use Rattle.net_graph.specs.Keys.{lists_of};
@@ -219,6 +219,7 @@ impl Seen {
         requires frequency { frequency ≤ 1000000000000 }
         requires few { IsFew self.old }
         requires ids { ids.to < 2147483648 }
+        requires gateway { ForSome gateway.now (λ keys. IsId keys.interface) }
         ensures walked { OnOk result (walked frequency self.old (flat_map (host_copy frequency router net.now list.now gateway.now) (ids_in ids)) ≡ Ok self.new) }
         ensures few { OnOk result (IsFew self.new) }
         ensures cause { IfErr result (λ fault. (fault ≡ ShapeFault.Memory) ⊎ (walked frequency self.old (flat_map (host_copy frequency router net.now list.now gateway.now) (ids_in ids)) ≡ Err fault)) }
@@ -243,6 +244,7 @@ impl Seen {
         requires frequency { frequency ≤ 1000000000000 }
         requires few { IsFew self.old }
         requires id { IsId id }
+        requires gateway { ForSome gateway.now (λ keys. IsId keys.interface) }
         ensures walked { OnOk result (walked frequency self.old (host_copy frequency router net.now list.now gateway.now id) ≡ Ok self.new) }
         ensures few { OnOk result (IsFew self.new) }
         ensures cause { IfErr result (λ fault. (fault ≡ ShapeFault.Memory) ⊎ (walked frequency self.old (host_copy frequency router net.now list.now gateway.now id) ≡ Err fault)) }
