@@ -1,6 +1,6 @@
 -- How what the walk has met grows visit by visit.
-use Rattle.std.specs.Prelude.{ℕ, Bool, false, ◌≡◌, ◌+◌, ◌≤◌, ◌||◌, List, [], ◌∷◌, ◌++◌, length, Option, Some, None, Ok, Err, codes}
-use Rattle.std.specs.List.{All}
+use Rattle.std.specs.Prelude.{ℕ, Bool, true, false, ◌≡◌, ◌+◌, ◌≤◌, ◌||◌, List, [], ◌∷◌, ◌++◌, length, Option, Some, None, Ok, Err, codes}
+use Rattle.std.specs.List.{All, count_by}
 use Rattle.std.specs.Option.{ForSome}
 use Rattle.dml_tree.specs.declared.tree.Attribute.{Attribute}
 use Rattle.dml_tree.specs.declared.tree.Value.{Value}
@@ -16,6 +16,7 @@ use Rattle.net_graph.specs.declared.list_keys.ServerKeys.{ServerKeys}
 use Rattle.net_graph.specs.declared.list_keys.SessionKeys.{SessionKeys}
 use Rattle.net_graph.specs.declared.seen.HostSeen.{HostSeen}
 use Rattle.net_graph.specs.declared.seen.Seen.{Seen}
+use Rattle.net_graph.specs.declared.seen.TrafficSeen.{TrafficSeen}
 use Rattle.net_graph.specs.declared.seen.TrafficSeen.TheVariants as traffic
 use Rattle.net_graph.specs.Keys.{lists_of, first_of}
 use Rattle.net_graph.specs.ListKeys.{link_keys, is_text}
@@ -127,8 +128,12 @@ pub record HasIds (host : HostSeen) : Type 0 where
   pub own : IsId host.id
   pub gateway : ForSome host.gateway (λ (k : GatewayKeys). IsId k.interface)
 
--- at most 65,536 Nets, hosts and links, 131,072 interfaces, each with a name, and 64 times in which
--- a link is down; the ids of hosts are in their range
+abbrev pub is_server : TrafficSeen → Bool
+is_server (traffic.Pattern p) = false
+is_server (traffic.Server s) = true
+
+-- at most 65,536 Nets, hosts, links and servers, 131,072 interfaces, each with a name, and 64 times
+-- in which a link is down; the ids of hosts are in their range
 pub record IsFew (w : Seen) : Type 0 where
   pub nets : length w.net_names ≤ 65536
   pub hosts : length w.host_names ≤ 65536
@@ -137,6 +142,8 @@ pub record IsFew (w : Seen) : Type 0 where
   pub interfaces : length w.interface_names ≤ 131072
   pub rows : length w.interfaces ≡ length w.interface_names
   pub ids : All HasIds w.hosts
+  pub servers : w.servers ≤ 65536
+  pub served : count_by is_server w.traffic ≡ w.servers
 
 -- how many links and Nets there are
 abbrev pub kids : Seen → ℕ
