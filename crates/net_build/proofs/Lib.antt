@@ -3,3 +3,7 @@ pub mod ReadingKeys
 pub mod Rooms
 pub mod Runs
 pub mod Worked
+pub mod Pieces
+pub mod Channels
+pub mod OneText
+mod WorkedLines

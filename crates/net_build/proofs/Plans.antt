@@ -21,15 +21,12 @@ use Rattle.net_build.specs.RingModel.{Read, RingKeys, then_read, needed, tokens_
 use Rattle.net_build.proofs.Rooms.{IsWithin, ring_room}
 
 -- the keys of the ring of a tree were read
-pub ring_found : (root : List Attribute) (ring : Attributes) (nodes : ℕ) (tokens : List ℕ) (hops : List Hop) →
-    Some ring ≡ first_of (lists_of (codes "ring") root) → needed (codes "nodes") 65537 (attributes ring) ≡ Ok nodes → tokens_in nodes (attributes ring) ≡ Ok tokens → hops_in nodes (attributes ring) ≡ Ok hops →
-    ring_plan_of root ≡ build (record { nodes = nodes; tokens = tokens; hops = hops })
-ring_found root ring nodes tokens hops found n t h =
-    let xs = attributes ring in
-    ap (λ (o : Option Attributes). then_read (keys_where o) build) (sym found)
-    ∙ (ap (λ (r : Read ℕ). then_read (then_read r (λ m. then_read (tokens_in m xs) (λ ts. then_read (hops_in m xs) (λ hs. Ok (record { nodes = m; tokens = ts; hops = hs }))))) build) n
-    ∙ (ap (λ (r : Read (List ℕ)). then_read (then_read r (λ ts. then_read (hops_in nodes xs) (λ hs. Ok (record { nodes = nodes; tokens = ts; hops = hs })))) build) t
-    ∙ ap (λ (r : Read (List Hop)). then_read (then_read r (λ hs. Ok (record { nodes = nodes; tokens = tokens; hops = hs }))) build) h))
+pub ring_found : (root : List Attribute) (keys : RingKeys) (tokens : List ℕ) (hops : List Hop) → ring_of root ≡ Ok keys → tokens ≡ keys.tokens → hops ≡ keys.hops →
+    ring_plan_of root ≡ build (record { nodes = keys.nodes; tokens = tokens; hops = hops })
+ring_found root keys tokens hops read t h =
+    ap (λ (r : Read RingKeys). then_read r build) read
+    ∙ (ap (λ (ts : List ℕ). build (record { nodes = keys.nodes; tokens = ts; hops = keys.hops })) (sym t)
+    ∙ ap (λ (hs : List Hop). build (record { nodes = keys.nodes; tokens = tokens; hops = hs })) (sym h))
 
 full : (b : Bool) → cond b (Some refused.TooManyChannels) None ≡ Some refused.TooManyChannels → b ≡ true
 full true e = refl
@@ -67,9 +64,3 @@ passed_ok r a b e h = subst (λ (x : Read (Built Ring RingState RingPayload)). I
 
 pub passed_err : (r : Result (Built Ring RingState RingPayload) ShapeFault) (a b : Read (Built Ring RingState RingPayload)) → a ≡ b → IfErr r (λ fault. (fault ≡ Memory) ⊎ (b ≡ Err fault)) → IfErr r (λ fault. (fault ≡ Memory) ⊎ (a ≡ Err fault))
 passed_err r a b e h = subst (λ (x : Read (Built Ring RingState RingPayload)). IfErr r (λ fault. (fault ≡ Memory) ⊎ (x ≡ Err fault))) (sym e) h
-
-pub same_keys : (nodes : ℕ) (tokens tokens' : List ℕ) (hops hops' : List Hop) → tokens ≡ tokens' → hops ≡ hops' →
-    build (record { nodes = nodes; tokens = tokens'; hops = hops' }) ≡ build (record { nodes = nodes; tokens = tokens; hops = hops })
-same_keys nodes tokens tokens' hops hops' t h =
-    ap (λ (ts : List ℕ). build (record { nodes = nodes; tokens = ts; hops = hops' })) (sym t)
-    ∙ ap (λ (hs : List Hop). build (record { nodes = nodes; tokens = tokens; hops = hs })) (sym h)

@@ -1,5 +1,5 @@
 -- The ring that a tree describes, and its plan.
-use Rattle.std.specs.Prelude.{ℕ, Bool, ◌+◌, ◌≤◌, nat_lt, List, [], ◌∷◌, map, length, replicate, Option, Some, None, IfSome, Result, Ok, Err, codes, decimal, if◌then◌else◌}
+use Rattle.std.specs.Prelude.{ℕ, Bool, ◌+◌, ◌≤◌, nat_lt, List, [], ◌∷◌, map, length, replicate, Option, Some, None, IfSome, Ok, Err, codes, decimal, if◌then◌else◌}
 use Rattle.std.specs.List.{list_any, range_with_len}
 use Rattle.dml_tree.specs.declared.tree.Attribute.{Attribute}
 use Rattle.dml_tree.specs.declared.tree.Value.{Value}
@@ -17,20 +17,8 @@ use Rattle.ring_model.specs.declared.ring.Hop.{Hop}
 use Rattle.ring_model.specs.Rings.{ring_draft, with_hops}
 use Rattle.net_build.specs.declared.built.Built.{Built}
 use Rattle.net_build.specs.declared.ring.RingCounts.{RingCounts}
-
--- what is read, or the first fault
-abbrev pub Read : Type 0 → Type 0
-Read A = Result A ShapeFault
-
--- one thing is read after another
-abbrev pub then_read : {A B : Type 0} → Read A → (A → Read B) → Read B
-then_read (Ok x) next = next x
-then_read (Err fault) next = Err fault
-
--- one thing is read of each of these, in their order
-abbrev pub read_each : {A B : Type 0} → (A → Read B) → List A → Read (List B)
-read_each f [] = Ok []
-read_each f (x ∷ xs) = then_read (f x) (λ y. then_read (read_each f xs) (λ ys. Ok (y ∷ ys)))
+pub use Rattle.net_build.specs.declared.ring.RingKeys.{RingKeys}
+pub use Rattle.net_graph.specs.Reads.{Read, then_read, read_each}
 
 -- the number below `end` of the first of these values, and what stands for none
 abbrev pub first_number : List ℕ → ℕ → Read ℕ → List Value → Read ℕ
@@ -49,12 +37,6 @@ needed key end xs = first_number key end (Err (Missing key)) (values_of key xs)
 -- the number of a key that is 0 where it does not stand
 abbrev pub optional : List ℕ → ℕ → List Attribute → Read ℕ
 optional key end xs = first_number key end (Ok 0) (values_of key xs)
-
--- the nodes, the nodes that have a token at the start, one for each token, and the hops
-pub record RingKeys : Type 0 where
-  pub nodes : ℕ
-  pub tokens : List ℕ
-  pub hops : List Hop
 
 abbrev pub hop_of : ℕ → List Attribute → Read Hop
 hop_of nodes xs =

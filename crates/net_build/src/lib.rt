@@ -5,11 +5,16 @@
 #![tactic(auto)]
 
 mod built;
+mod fields;
+pub mod laws;
+mod maps;
+mod names;
 mod ring;
+mod routes;
 #[cfg(test)]
 mod tests;
 mod text;
 
 pub use built::Built;
-pub use ring::{MOST_TOKENS, RingCounts, has_few_tokens, ring_counts, ring_plan};
-pub use text::{plan_text, ring_text};
+pub use ring::{RingCounts, ring_counts, ring_plan, ring_text};
+pub use text::plan_text;

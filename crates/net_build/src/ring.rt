@@ -1,18 +1,21 @@
 //! The plan of a ring.
-ghost use Rattle.std.specs.Prelude.{◌≡◌, ◌≤◌, ◌<◌, ◌⊎◌, false, [], length, map, replicate, codes, decimal, Some, None, Ok, Err, IfOk, IfErr, IsTrue, ◌↔◌};
+ghost use Rattle.std.specs.Prelude.{◌≡◌, ◌≤◌, ◌<◌, ◌⊎◌, ◌++◌, ℕ, List, false, length, map, replicate, decimal, Ok, Err, IfOk, IfErr, OnOk, OnErr};
 ghost use Rattle.std.specs.List.{All, list_any, range_with_len};
 ghost use Rattle.dml_tree.specs.TreeView.{attributes};
-ghost use Rattle.net_graph.specs.Keys.{values_of, lists_of, first_of, has_net};
+ghost use Rattle.net_graph.specs.Keys.{values_of, has_net};
 ghost use Rattle.ring_model.specs.Reacting.{IsRing, AnyPayload};
 ghost use Rattle.global_list.specs.Healthy.{IsRunnable};
-ghost use Rattle.net_build.specs.RingModel.{first_number, absent_number, tokens_in, hops_in, hop_of, is_long, build, ring_plan_of, HasFewTokens, ring_counts_of};
+ghost use Rattle.net_build.specs.RingModel.{first_number, absent_number, tokens_in, hops_in, hop_of, is_long, build, built_of, ring_of, ring_plan_of, HasFewTokens, ring_counts_of};
+ghost use Rattle.net_build.specs.PlanText.{ring_text_of};
 
 use crate::Built;
+use crate::fields::push_bytes;
+use crate::maps::push_maps;
 use dml_tree::{Tree, Value};
 use net_graph::{ShapeFault, first_list, first_value, has_key, missing, number_in};
 use ring_model::{Hop, Ring, ring_builder};
 use sim_base::{ListOf, Memory, Text, push_number};
-use ssf_model::{BuildFault, LONGEST_DELAY, Names};
+use ssf_model::{BuildFault, LONGEST_DELAY, MOST_CHANNELS, Names};
 use std::alloc::Global;
 
 /// The number of nodes is below this.
@@ -20,9 +23,6 @@ const NODES_END: u64 = 65_537;
 
 /// A delay has at most 18 digits, so it is below this.
 const DELAY_END: u64 = 1_000_000_000_000_000_000;
-
-/// The most tokens of a ring.
-pub const MOST_TOKENS: usize = 4_194_304;
 
 /// A priority is below this.
 const PRIORITY_END: u64 = 256;
@@ -43,13 +43,31 @@ pub fn ring_plan(alloc: Global, tree: &Tree) -> Result<Built<Ring>, ShapeFault>
     ensures named { IfOk result (λ built. length built.names.names ≡ length built.plan.entities) }
     ensures cause { IfErr result (λ fault. (fault ≡ ShapeFault.Memory) ⊎ (ring_plan_of (attributes tree.now) ≡ Err fault)) }
 {
-    let Some(ring) = first_list(tree, b"ring") else {
-        return Err(ShapeFault::NoModel);
-    };
-    let nodes = number(alloc, ring, b"nodes", NODES_END, None)? as u32;
-    let tokens = read_tokens(alloc, ring, nodes)?;
-    let hops = read_hops(alloc, ring, nodes)?;
-    build_ring(alloc, nodes, tokens.as_slice(), hops.as_slice())
+    let keys = ring_keys(alloc, tree)?;
+    build_ring(
+        alloc,
+        keys.nodes,
+        keys.tokens.as_slice(),
+        keys.hops.as_slice(),
+    )
+}
+
+/// Appends the text of the plan of the ring that is the model of a tree: a line for each mapping.
+///
+/// # Errors
+/// Those of `ring_plan`. Then nothing is appended.
+pub fn ring_text(alloc: Global, tree: &Tree, out: &mut Vec<u8>) -> Result<(), ShapeFault>
+    requires model { has_net (attributes tree.now) ≡ false }
+    requires few { HasFewTokens (attributes tree.now) }
+    ensures text { OnOk result ((text : List ℕ) × (ring_text_of (attributes tree.now) ≡ Ok text) × (out.new.items ≡ out.old.items ++ text)) }
+    ensures kept { OnErr result (out.new.items ≡ out.old.items) }
+    ensures cause { IfErr result (λ fault. (fault ≡ ShapeFault.Memory) ⊎ (ring_text_of (attributes tree.now) ≡ Err fault)) }
+{
+    let built = ring_plan(alloc, tree)?;
+    let mut text = Vec::new(alloc);
+    push_maps(&built.names, built.plan.mappings.as_slice(), &mut text)?;
+    push_bytes(out, text.as_slice())?;
+    Ok(())
 }
 
 /// How many nodes, tokens and hops a ring has.
@@ -69,33 +87,66 @@ pub fn ring_counts(alloc: Global, tree: &Tree) -> Result<RingCounts, ShapeFault>
     ensures counts { IfOk result (λ counts. ring_counts_of (attributes tree.now) ≡ Ok counts) }
     ensures cause { IfErr result (λ fault. (fault ≡ ShapeFault.Memory) ⊎ (ring_counts_of (attributes tree.now) ≡ Err fault)) }
 {
-    let _tree = tree;
-    let _alloc = alloc;
-    Err(ShapeFault::Memory)
+    let keys = ring_keys(alloc, tree)?;
+    check_size(&keys)?;
+    Ok(RingCounts {
+        nodes: u64::from(keys.nodes),
+        tokens: keys.tokens.len() as u64,
+        hops: keys.hops.len() as u64,
+    })
 }
 
-/// Whether the ring of a tree has at most `MOST_TOKENS` tokens, as `ring_plan` wants it; so has a
-/// tree without a ring.
-pub fn has_few_tokens(tree: &Tree) -> bool
-    ensures { IsTrue result ↔ HasFewTokens (attributes tree.now) }
+/// Whether a ring has a plan.
+///
+/// # Errors
+/// `DelayTooLong` where a hop's delay is above 10^15 ticks, else `TooManyChannels` where the nodes
+/// and hops together are above 262,144.
+fn check_size(keys: &RingKeys) -> Result<(), ShapeFault>
+    requires { keys.now.nodes ≤ 65536 }
+    ensures built { OnOk result (build keys.now ≡ Ok (built_of keys.now)) }
+    ensures cause { IfErr result (λ fault. build keys.now ≡ Err fault) }
 {
-    match first_list(tree, b"ring") {
-        Some(ring) => count_values(ring, b"token") <= MOST_TOKENS,
-        None => true,
+    if has_long_delay(keys.hops.as_slice()) {
+        return Err(ShapeFault::DelayTooLong);
     }
+    if keys.hops.len() > MOST_CHANNELS - keys.nodes as usize {
+        return Err(ShapeFault::TooManyChannels);
+    }
+    Ok(())
 }
 
-/// How many attributes have this key.
-fn count_values(tree: &Tree, key: &[u8]) -> usize
-    ensures { result ≡ length (values_of key.now (attributes tree.now)) }
+/// What a ring's keys say: how many nodes there are, the nodes that have a token at the start, one
+/// for each token, and the hops.
+#[derive(Drop)]
+pub struct RingKeys {
+    pub nodes: u32,
+    pub tokens: ListOf<u32>,
+    pub hops: ListOf<Hop>,
+}
+
+/// The keys of the ring that is the model of a tree.
+///
+/// # Errors
+/// `NoModel` where there is no list `ring`, then the first fault of its keys; `Memory`.
+fn ring_keys(alloc: Global, tree: &Tree) -> Result<RingKeys, ShapeFault>
+    ensures read { IfOk result (λ keys. ring_of (attributes tree.now) ≡ Ok keys) }
+    ensures nodes { IfOk result (λ keys. keys.nodes ≤ 65536) }
+    ensures tokens { IfOk result (λ keys. All (λ t. t < keys.nodes) keys.tokens) }
+    ensures hops { IfOk result (λ keys. All (λ h. (h.from < keys.nodes) × (h.to < keys.nodes)) keys.hops) }
+    ensures few { IfOk result (λ keys. HasFewTokens (attributes tree.now) → length keys.tokens ≤ 4194304) }
+    ensures cause { IfErr result (λ fault. (fault ≡ ShapeFault.Memory) ⊎ (ring_of (attributes tree.now) ≡ Err fault)) }
 {
-    let mut count = 0;
-    for attribute in tree.attributes() {
-        if has_key(attribute, key) {
-            count += 1;
-        }
-    }
-    count
+    let Some(ring) = first_list(tree, b"ring") else {
+        return Err(ShapeFault::NoModel);
+    };
+    let nodes = number(alloc, ring, b"nodes", NODES_END, None)? as u32;
+    let tokens = read_tokens(alloc, ring, nodes)?;
+    let hops = read_hops(alloc, ring, nodes)?;
+    Ok(RingKeys {
+        nodes,
+        tokens: ListOf::from_vec(tokens),
+        hops: ListOf::from_vec(hops),
+    })
 }
 
 /// The plan of a ring with these nodes, tokens and hops.

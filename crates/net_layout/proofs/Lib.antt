@@ -7,3 +7,4 @@ pub mod Counting
 pub mod Finding
 pub mod Ends
 pub mod Outcomes
+mod Worked

@@ -1,7 +1,7 @@
 use Rattle.std.proofs.Common.{◌≡◌, ◌≤◌, ◌+◌, length, drop}
 use Rattle.dml_tree.specs.TreeView.{attributes}
 use Rattle.net_graph.specs.Keys.{values_of}
-use Rattle.net_build.proofs.ring.count_values.Given as goal
+use Rattle.net_build.proofs.tests.count_values.Given as goal
 
 abbrev pub invariant-loop-attribute : goal.invariant-loop-attribute
 invariant-loop-attribute l = record {
