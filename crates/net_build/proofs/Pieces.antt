@@ -1,5 +1,5 @@
 -- Texts of pieces, one piece more.
-use Rattle.std.proofs.Common.{◌≡◌, ℕ, ◌+◌, suc, List, [], ◌++◌, refl, sym, ap, ◌∙◌, append_assoc, add-one, subst}
+use Rattle.std.proofs.Common.{◌≡◌, ℕ, ◌+◌, List, [], ◌++◌, refl, sym, ap, ◌∙◌, append_assoc, add-one, subst}
 use Rattle.std.proofs.lemmas.List.{append-nil}
 use Rattle.net_build.specs.PlanText.{AreTexts}
 

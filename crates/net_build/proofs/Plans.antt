@@ -1,13 +1,9 @@
 -- From the keys of a ring to its plan.
-use Rattle.std.proofs.Common.{◌≡◌, ℕ, ◌+◌, ◌<◌, ◌≤◌, ◌⊎◌, inl, inr, Bool, true, false, cond, nat_lt, List, [], ◌∷◌, map, length, replicate, decimal, Option, Some, None, Result, Ok, Err, IfOk, IfErr, refl, arith, ap, sym, subst, ◌∙◌, codes}
+use Rattle.std.proofs.Common.{◌≡◌, ℕ, ◌+◌, ◌≤◌, ◌⊎◌, Bool, true, false, cond, nat_lt, List, map, length, replicate, decimal, Some, None, Result, Ok, Err, IfOk, IfErr, refl, arith, ap, sym, subst, ◌∙◌}
 use Rattle.std.specs.List.{All, list_any, range_with_len}
 use Rattle.dml_tree.specs.declared.tree.Attribute.{Attribute}
-use Rattle.dml_tree.specs.Attributes.{Attributes}
-use Rattle.dml_tree.specs.TreeView.{attributes}
 use Rattle.net_graph.specs.declared.fault.ShapeFault.{ShapeFault}
-use Rattle.net_graph.specs.declared.fault.ShapeFault.TheVariants.{Memory, DelayTooLong, TooManyChannels}
-use Rattle.net_graph.specs.Keys.{values_of, lists_of, first_of}
-use Rattle.ssf_model.specs.declared.builder.BuildFault.{BuildFault}
+use Rattle.net_graph.specs.declared.fault.ShapeFault.TheVariants.{Memory, TooManyChannels}
 use Rattle.ssf_model.specs.declared.builder.BuildFault.TheVariants as refused
 use Rattle.ssf_model.specs.declared.plan.Plan.{Plan}
 use Rattle.ssf_model.specs.Drafts.{Draft, MostChannels, planned}
@@ -17,7 +13,7 @@ use Rattle.ring_model.specs.declared.ring.RingPayload.{RingPayload}
 use Rattle.ring_model.specs.declared.ring.Hop.{Hop}
 use Rattle.ring_model.specs.Rings.{ring_draft, with_hops, ring_refusal}
 use Rattle.net_build.specs.declared.built.Built.{Built}
-use Rattle.net_build.specs.RingModel.{Read, RingKeys, then_read, needed, tokens_in, hops_in, keys_of, keys_where, ring_of, built_of, build, is_long, ring_plan_of}
+use Rattle.net_build.specs.RingModel.{Read, RingKeys, then_read, ring_of, built_of, build, is_long, ring_plan_of}
 use Rattle.net_build.proofs.Rooms.{IsWithin, ring_room}
 
 -- the keys of the ring of a tree were read

@@ -1,5 +1,5 @@
 -- Reading one thing after another.
-use Rattle.std.proofs.Common.{◌≡◌, ℕ, zero, suc, ◌+◌, ◌-◌, ◌<◌, ◌≤◌, Bool, true, false, cond, ◌&&◌, nat_lt, nat_le, List, [], ◌∷◌, ◌++◌, length, Option, Some, None, Result, Ok, Err, refl, arith, ap, sym, subst, ◌∙◌, append-nil, append_assoc, codes}
+use Rattle.std.proofs.Common.{◌≡◌, ℕ, zero, suc, ◌<◌, Bool, true, false, cond, ◌&&◌, nat_lt, nat_le, List, [], ◌∷◌, ◌++◌, length, Option, Some, None, Ok, Err, refl, arith, ap, sym, subst, ◌∙◌, append-nil, append_assoc, codes}
 use Rattle.std.specs.List.{All}
 use Rattle.std.specs.Option.{ForSome}
 use Rattle.std.proofs.lemmas.Bool.Decides.{nat_tests}
@@ -12,7 +12,7 @@ use Rattle.net_graph.specs.declared.fault.ShapeFault.{ShapeFault}
 use Rattle.net_graph.specs.declared.fault.ShapeFault.TheVariants.{BadNumber}
 use Rattle.net_graph.specs.Keys.{values_of, number_of_value}
 use Rattle.ring_model.specs.declared.ring.Hop.{Hop}
-use Rattle.net_build.specs.RingModel.{Read, then_read, read_each, first_number, absent_number, needed, optional, hop_of, tokens_in, hops_in}
+use Rattle.net_build.specs.RingModel.{Read, then_read, read_each, first_number, absent_number, needed, optional, hop_of}
 
 -- what was read before what is still to be read
 abbrev pub onto : {A : Type 0} → List A → Read (List A) → Read (List A)

@@ -1,19 +1,17 @@
 -- A ring whose hops are in range and whose delays are short is refused only where there are too many nodes and hops.
-use Rattle.std.proofs.Common.{◌≡◌, ℕ, zero, suc, ◌+◌, ◌-◌, ◌<◌, ◌≤◌, Bool, true, false, cond, not, ◌||◌, nat_lt, nat_le, nat_eq, List, [], ◌∷◌, ◌++◌, map, length, Option, Some, None, refl, arith, ap, sym, subst, ◌∙◌, length-append}
-use Rattle.std.specs.List.{All, list_any, range_with_len, sum_by, count_by, slice_index_or}
+use Rattle.std.proofs.Common.{◌≡◌, ℕ, zero, suc, ◌+◌, ◌<◌, ◌≤◌, Bool, true, false, cond, ◌||◌, nat_lt, nat_le, List, [], ◌∷◌, map, length, Option, Some, None, refl, arith, ap, ◌∙◌, length-append}
+use Rattle.std.specs.List.{All, list_any, range_with_len, slice_index_or}
 use Rattle.std.proofs.lemmas.Bool.Decides.{nat_tests}
-use Rattle.std.proofs.lemmas.Grind.{common_steps}
 use Rattle.std.proofs.lemmas.List.FromFn.{length-range_with_len}
 use Rattle.ssf_model.specs.declared.builder.BuildFault.{BuildFault}
 use Rattle.ssf_model.specs.declared.builder.BuildFault.TheVariants.{TooManyChannels}
-use Rattle.ssf_model.specs.declared.builder.OutChannel.{OutChannel}
 use Rattle.ssf_model.specs.Reaction.{LongestDelay}
-use Rattle.ssf_model.specs.Drafts.{Draft, MostChannels, channels_of, all_timers, out_at, refuse_if, mapping_refusal, with_mapping}
+use Rattle.ssf_model.specs.Drafts.{Draft, MostChannels, channels_of, all_timers, out_at, mapping_refusal, with_mapping}
 use Rattle.ring_model.specs.declared.ring.Ring.{Ring}
 use Rattle.ring_model.specs.declared.ring.RingState.{RingState}
 use Rattle.ring_model.specs.declared.ring.Hop.{Hop}
 use Rattle.net_build.specs.RingModel.{is_long}
-use Rattle.ring_model.specs.Rings.{ring_draft, with_hops, hops_refusal, ring_refusal, first_of, free_out, node_of, tokens_of}
+use Rattle.ring_model.specs.Rings.{ring_draft, hops_refusal, ring_refusal, first_of, free_out, node_of, tokens_of}
 
 -- the ends of a hop are nodes
 abbrev pub IsWithin : ℕ → Hop → Type 0

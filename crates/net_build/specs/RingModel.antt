@@ -5,7 +5,6 @@ use Rattle.dml_tree.specs.declared.tree.Attribute.{Attribute}
 use Rattle.dml_tree.specs.declared.tree.Value.{Value}
 use Rattle.dml_tree.specs.Attributes.{Attributes}
 use Rattle.dml_tree.specs.TreeView.{attributes}
-use Rattle.net_graph.specs.declared.fault.ShapeFault.{ShapeFault}
 use Rattle.net_graph.specs.declared.fault.ShapeFault.TheVariants.{NoModel, Missing, DelayTooLong, TooManyChannels}
 use Rattle.net_graph.specs.Keys.{values_of, lists_of, first_of, number_of_value}
 use Rattle.ssf_model.specs.Reaction.{LongestDelay}

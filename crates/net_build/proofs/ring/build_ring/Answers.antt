@@ -1,4 +1,4 @@
-use Rattle.std.proofs.Common.{◌≡◌, inl, inr, Some, Ok, ap, sym, ◌∙◌}
+use Rattle.std.proofs.Common.{inl, inr, Some, Ok, ap, sym, ◌∙◌}
 use Rattle.net_build.proofs.Plans.{build_refused, build_fits, same_built}
 use Rattle.net_build.proofs.Runs.{ring_runs, ring_named}
 use Rattle.net_build.proofs.ring.build_ring.Goals as goal

@@ -1,5 +1,4 @@
-use Rattle.std.proofs.Common.{◌≡◌, ℕ, ◌<◌, ◌≤◌, Option, Some, IfSome, List, length, arith, sym, subst, codes}
-use Rattle.std.specs.List.{All}
+use Rattle.std.proofs.Common.{ℕ, ◌<◌, ◌≤◌, Option, IfSome, length, arith, sym, subst, codes}
 use Rattle.dml_tree.specs.Attributes.{Attributes}
 use Rattle.dml_tree.specs.TreeView.{attributes}
 use Rattle.net_graph.specs.Keys.{values_of, lists_of, number_of_value}

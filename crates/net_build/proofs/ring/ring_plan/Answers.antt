@@ -1,4 +1,3 @@
-use Rattle.std.proofs.Common.{◌≤◌, length, ap, ◌∙◌}
 use Rattle.dml_tree.specs.TreeView.{attributes}
 use Rattle.net_build.proofs.Plans.{ring_found, passed_ok, passed_err}
 use Rattle.net_build.proofs.ring.ring_plan.Goals as goal

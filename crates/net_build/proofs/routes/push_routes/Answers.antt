@@ -1,4 +1,3 @@
-use Rattle.std.proofs.Common.{[], refl, sym, ◌∙◌}
 use Rattle.net_build.specs.PlanText.{IsHostText}
 use Rattle.net_build.proofs.Pieces.{no_texts, more_texts}
 use Rattle.net_build.proofs.routes.push_routes.Goals as goal
