@@ -1,6 +1,5 @@
 -- A network of two hosts and a router between them, and one whose link goes down twice.
-use Rattle.std.proofs.Common.{◌≡◌, ℕ, ◌+◌, true, false, List, [], ◌∷◌, Option, Some, None, refl}
-use Rattle.sim_base.specs.declared.records.TcpConfig.{TcpConfig}
+use Rattle.std.proofs.Common.{◌≡◌, ℕ, ◌+◌, true, false, List, [], ◌∷◌, Some, None, refl}
 use Rattle.net_graph.specs.declared.rows.Network.{Network}
 use Rattle.net_graph.specs.declared.rows.HostRow.{HostRow}
 use Rattle.net_graph.specs.declared.rows.InterfaceRow.{InterfaceRow}
