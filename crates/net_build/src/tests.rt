@@ -1,13 +1,15 @@
 //! Rings of worked trees.
-ghost use Rattle.std.specs.Prelude.{◌≡◌, length, IsTrue, ◌↔◌};
+ghost use Rattle.std.specs.Prelude.{◌≡◌, length, IfOk, IsTrue, ◌↔◌};
 ghost use Rattle.dml_tree.specs.TreeView.{attributes};
 ghost use Rattle.net_graph.specs.Keys.{values_of};
+ghost use Rattle.net_graph.specs.Networks.{IsNetwork};
 ghost use Rattle.net_build.specs.RingModel.{HasFewTokens};
 
-use crate::{RingCounts, ring_counts, ring_plan, ring_text};
+use crate::{RingCounts, plan_text, ring_counts, ring_plan, ring_text};
 use dml_tree::{Tree, read};
-use net_graph::{ShapeFault, first_list, has_key, is_net};
-use std::alloc::Global;
+use net_graph::{HostRow, NetRow, Network, ShapeFault, first_list, has_key, is_net};
+use sim_base::{ListOf, TcpConfig};
+use std::alloc::{AllocError, Global};
 use std::process::Abort;
 use std::test::Fail;
 
@@ -259,6 +261,60 @@ fn nodes_tokens_and_hops_are_counted(rt: HostRuntime) -> Result<(), Fail> {
             ring_counts(rt.alloc(), &long),
             Err(ShapeFault::DelayTooLong)
         )
+    );
+    Ok(())
+}
+
+/// A network of one Net and one host without interfaces.
+fn one_host(alloc: Global) -> Result<Network, AllocError>
+    ensures { IfOk result (λ network. IsNetwork network) }
+{
+    let mut nets = Vec::new(alloc);
+    nets.push(NetRow {
+        parent: None,
+        order: 0,
+        ids: ListOf::new(alloc),
+    })?;
+    let mut hosts = Vec::new(alloc);
+    hosts.push(HostRow {
+        net: 0,
+        id: 5,
+        router: false,
+        ospf: false,
+        gateway: None,
+        tcp: TcpConfig {
+            iss: 0,
+            mss: 1000,
+            receive: 32,
+            send: 32,
+            tries: 12,
+            msl: 60_000_000_000,
+            frequency: 1_000_000_000,
+        },
+    })?;
+    Ok(Network {
+        frequency: 1_000_000_000,
+        patterns: 0,
+        nets: ListOf::from_vec(nets),
+        hosts: ListOf::from_vec(hosts),
+        interfaces: ListOf::new(alloc),
+        links: ListOf::new(alloc),
+        sessions: ListOf::new(alloc),
+        servers: ListOf::new(alloc),
+    })
+}
+
+#[test]
+fn a_host_alone_has_a_net_and_a_start(rt: HostRuntime) -> Result<(), Fail> {
+    let alloc = rt.alloc();
+    let network = one_host(alloc)?;
+    let mut out = Vec::new(alloc);
+    out.push(b'#')?;
+    let planned = plan_text(alloc, &network, &mut out);
+    assert!(rt; planned.is_ok());
+    assert_eq!(rt;
+        out.as_slice(),
+        b"#net - 10.0.0.0/32\nmap 2 5 5 0\n".as_slice()
     );
     Ok(())
 }
