@@ -1,8 +1,5 @@
-use Rattle.std.proofs.Common.{◌≡◌, rules}
-use Rattle.ssf_model.specs.Drafts.{planned}
-use Rattle.list_examples.specs.Timers.{listener_draft}
-use Rattle.list_examples.proofs.TimedPlans.{listener_runs}
+use Rattle.global_list.proofs.Fitting.{fits_runnable}
 use Rattle.list_examples.proofs.timers.listener_plan.Goals as goal
 
 pub returns-clause-runs : goal.returns-clause-runs
-returns-clause-runs c = let made : c.in_ok-plan.plan ≡ planned listener_draft = search rules in rw made listener_runs
+returns-clause-runs c = fits_runnable _ _ _ c.in_ok-plan.ensures.fits

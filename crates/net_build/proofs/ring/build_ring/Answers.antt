@@ -1,6 +1,7 @@
 use Rattle.std.proofs.Common.{inl, inr, Some, Ok, ap, sym, ◌∙◌}
+use Rattle.global_list.proofs.Fitting.{fits_runnable}
 use Rattle.net_build.proofs.Plans.{build_refused, build_fits, same_built}
-use Rattle.net_build.proofs.Runs.{ring_runs, ring_named}
+use Rattle.net_build.proofs.Runs.{ring_named}
 use Rattle.net_build.proofs.ring.build_ring.Goals as goal
 
 pub returns-in-Err-TooManyChannels-clause-cause : goal.returns-in-Err-TooManyChannels-clause-cause
@@ -15,14 +16,12 @@ pub returns-clause-built : goal.returns-clause-built
 returns-clause-built c =
     build_fits c.args.nodes c.args.tokens.now c.args.hops.now c.requires.nodes c.requires.hops (sym c.has_long_delay.ensures ∙ c.if-has_long_delay.false) c.in-Ok.ensures.made.0
     ∙ ap Ok (same_built c.args.nodes c.args.tokens.now c.args.hops.now c.in-Ok.builder c.in_ok-plan.plan c.in_ok-names.names.names c.in_ok-nets.nets
-    c.in-Ok.ensures.made.1 c.in_ok-plan.ensures c.in_ok-names.ensures c.in_ok-nets.ensures)
+    c.in-Ok.ensures.made.1 c.in_ok-plan.ensures.plan c.in_ok-names.ensures c.in_ok-nets.ensures)
 
 pub returns-clause-runnable : goal.returns-clause-runnable
-returns-clause-runnable c =
-    ring_runs (record {}) c.args.nodes c.args.tokens.now c.args.hops.now c.in-Ok.builder c.in_ok-plan.plan
-    c.requires.hops c.in-Ok.ensures.made.0 c.in-Ok.ensures.made.1 c.in-Ok.ensures.valid c.in_ok-plan.ensures
+returns-clause-runnable c = fits_runnable _ _ _ c.in_ok-plan.ensures.fits
 
 pub returns-clause-named : goal.returns-clause-named
 returns-clause-named c =
     ring_named (record {}) c.args.nodes c.args.tokens.now c.args.hops.now c.in-Ok.builder c.in_ok-plan.plan c.in_ok-names.names.names
-    c.requires.hops c.in-Ok.ensures.made.0 c.in-Ok.ensures.made.1 c.in_ok-plan.ensures c.in_ok-names.ensures
+    c.in-Ok.ensures.made.1 c.in_ok-plan.ensures.plan c.in_ok-names.ensures
