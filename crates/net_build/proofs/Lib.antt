@@ -7,3 +7,4 @@ pub mod Pieces
 pub mod Channels
 pub mod OneText
 mod WorkedLines
+pub mod TwoHosts

@@ -1,5 +1,5 @@
 //! Rings of worked trees.
-ghost use Rattle.std.specs.Prelude.{◌≡◌, length, IfOk, IsTrue, ◌↔◌};
+ghost use Rattle.std.specs.Prelude.{◌≡◌, ◌∷◌, [], Some, None, false, length, IfOk, IsTrue, ◌↔◌};
 ghost use Rattle.dml_tree.specs.TreeView.{attributes};
 ghost use Rattle.net_graph.specs.Keys.{values_of};
 ghost use Rattle.net_graph.specs.Networks.{IsNetwork};
@@ -7,7 +7,9 @@ ghost use Rattle.net_build.specs.RingModel.{HasFewTokens};
 
 use crate::{RingCounts, plan_text, ring_counts, ring_plan, ring_text};
 use dml_tree::{Tree, read};
-use net_graph::{HostRow, NetRow, Network, ShapeFault, first_list, has_key, is_net};
+use net_graph::{
+    Down, HostRow, InterfaceRow, LinkRow, NetRow, Network, ShapeFault, first_list, has_key, is_net,
+};
 use sim_base::{ListOf, TcpConfig};
 use std::alloc::{AllocError, Global};
 use std::process::Abort;
@@ -265,20 +267,28 @@ fn nodes_tokens_and_hops_are_counted(rt: HostRuntime) -> Result<(), Fail> {
     Ok(())
 }
 
-/// A network of one Net and one host without interfaces.
-fn one_host(alloc: Global) -> Result<Network, AllocError>
-    ensures { IfOk result (λ network. IsNetwork network) }
+/// The row of an interface of a host, at a place of link 0.
+fn interface(host: u32, place: u32) -> InterfaceRow
+    ensures { result ≡ record { host = host; id = 0; bitrate = 8000000; latency = 0; buffer = 1000000; cost = 1; link = Some (0, place) } }
 {
-    let mut nets = Vec::new(alloc);
-    nets.push(NetRow {
-        parent: None,
-        order: 0,
-        ids: ListOf::new(alloc),
-    })?;
-    let mut hosts = Vec::new(alloc);
-    hosts.push(HostRow {
+    InterfaceRow {
+        host,
+        id: 0,
+        bitrate: 8_000_000,
+        latency: 0,
+        buffer: 1_000_000,
+        cost: 1,
+        link: Some((0, place)),
+    }
+}
+
+/// The row of a host with this id.
+fn host(id: u32) -> HostRow
+    ensures { result ≡ record { net = 0; id = id; router = false; ospf = false; gateway = None; tcp = record { iss = 0; mss = 1000; receive = 32; send = 32; tries = 12; msl = 60000000000; frequency = 1000000000 } } }
+{
+    HostRow {
         net: 0,
-        id: 5,
+        id,
         router: false,
         ospf: false,
         gateway: None,
@@ -291,30 +301,71 @@ fn one_host(alloc: Global) -> Result<Network, AllocError>
             msl: 60_000_000_000,
             frequency: 1_000_000_000,
         },
+    }
+}
+
+/// A link between two hosts that goes down.
+fn link(alloc: Global) -> Result<LinkRow, AllocError>
+    ensures { IfOk result (λ link. link ≡ record { net = 0; order = 0; delay = 1000000; attached = 0 ∷ 1 ∷ []; priority = 0; downs = record { from = 1; to = 1000000 } ∷ [] }) }
+{
+    let mut attached = Vec::new(alloc);
+    attached.push(0u32)?;
+    attached.push(1u32)?;
+    let mut downs = Vec::new(alloc);
+    downs.push(Down {
+        from: 1,
+        to: 1_000_000,
     })?;
+    Ok(LinkRow {
+        net: 0,
+        order: 0,
+        delay: 1_000_000,
+        attached: ListOf::from_vec(attached),
+        priority: 0,
+        downs: ListOf::from_vec(downs),
+    })
+}
+
+/// A network of two hosts and a link that goes down.
+fn two_hosts(alloc: Global) -> Result<Network, AllocError>
+    ensures { IfOk result (λ network. IsNetwork network) }
+{
+    let mut nets = Vec::new(alloc);
+    nets.push(NetRow {
+        parent: None,
+        order: 0,
+        ids: ListOf::new(alloc),
+    })?;
+    let mut hosts = Vec::new(alloc);
+    hosts.push(host(0))?;
+    hosts.push(host(1))?;
+    let mut interfaces = Vec::new(alloc);
+    interfaces.push(interface(0, 0))?;
+    interfaces.push(interface(1, 1))?;
+    let mut links = Vec::new(alloc);
+    links.push(link(alloc)?)?;
     Ok(Network {
         frequency: 1_000_000_000,
         patterns: 0,
         nets: ListOf::from_vec(nets),
         hosts: ListOf::from_vec(hosts),
-        interfaces: ListOf::new(alloc),
-        links: ListOf::new(alloc),
+        interfaces: ListOf::from_vec(interfaces),
+        links: ListOf::from_vec(links),
         sessions: ListOf::new(alloc),
         servers: ListOf::new(alloc),
     })
 }
 
 #[test]
-fn a_host_alone_has_a_net_and_a_start(rt: HostRuntime) -> Result<(), Fail> {
+fn a_link_that_goes_down_has_periods(rt: HostRuntime) -> Result<(), Fail> {
     let alloc = rt.alloc();
-    let network = one_host(alloc)?;
+    let network = two_hosts(alloc)?;
     let mut out = Vec::new(alloc);
     out.push(b'#')?;
     let planned = plan_text(alloc, &network, &mut out);
     assert!(rt; planned.is_ok());
-    assert_eq!(rt;
-        out.as_slice(),
-        b"#net - 10.0.0.0/32\nmap 2 5 5 0\n".as_slice()
-    );
+    let wanted =
+        b"#net - 10.0.0.0/30\nlink 0 10.0.0.0/30 1000000\ndown 0 1 1000000\nif 0(0) 10.0.0.1\nif 1(0) 10.0.0.2\nperiod 0\nroute 0 10.0.0.0/30 0 0.0.0.0 1\nroute 1 10.0.0.0/30 0 0.0.0.0 1\nperiod 1\nperiod 1000000\nroute 0 10.0.0.0/30 0 0.0.0.0 1\nroute 1 10.0.0.0/30 0 0.0.0.0 1\nmap 4 0 0 0\nmap 5 1 1 0\nmap 6 0 1 1000000\nmap 7 1 0 1000000\n";
+    assert_eq!(rt; out.as_slice(), wanted.as_slice());
     Ok(())
 }
