@@ -1,11 +1,17 @@
 //! The network of a resolved tree.
-ghost use Rattle.std.specs.Prelude.{◌≡◌, ◌⊎◌, Ok, Err, IfOk, IfErr};
+ghost use Rattle.std.specs.Prelude.{◌≡◌, ◌≤◌, ◌⊎◌, None, Ok, Err, IfOk, IfErr};
 ghost use Rattle.dml_tree.specs.TreeView.{attributes};
-ghost use Rattle.net_graph.specs.NetworkOf.{network_of};
-ghost use Rattle.net_graph.specs.Networks.{IsNetwork};
+ghost use Rattle.net_graph.specs.NetworkOf.{network_of, net_network, rows_of, rows_with, attachments};
+ghost use Rattle.net_graph.specs.Steps.{IsFew};
+ghost use Rattle.net_resolve.specs.Tables.{IsTable, link_rows_from};
 
+use crate::found::Found;
+use crate::hosts::{host_rows, hosts_say, session_rows};
+use crate::links::{attach_all, interface_rows, no_places};
+use crate::servers::server_rows;
 use dml_tree::Tree;
-use net_graph::{Network, ShapeFault};
+use net_graph::{LinkRow, Network, Seen, ShapeFault, first_list, read_frequency, walk_over};
+use sim_base::ListOf;
 use std::alloc::Global;
 
 /// The network of a resolved tree whose model is a Net, or that has no model.
@@ -17,10 +23,67 @@ use std::alloc::Global;
 /// clients and servers, in the order of patterns; and `Memory`.
 pub fn build_network(alloc: Global, tree: &Tree) -> Result<Network, ShapeFault>
     ensures network { IfOk result (λ network. network_of (attributes tree.now) ≡ Ok network) }
-    ensures lawful { IfOk result (λ network. IsNetwork network) }
     ensures cause { IfErr result (λ fault. (fault ≡ ShapeFault.Memory) ⊎ (network_of (attributes tree.now) ≡ Err fault)) }
 {
-    let _tree = tree;
-    let _alloc = alloc;
-    Err(ShapeFault::Memory)
+    let Some(net) = first_list(tree, b"Net") else {
+        return Err(ShapeFault::NoModel);
+    };
+    net_network(alloc, net)
+}
+
+/// The network of the tree of a Net.
+fn net_network(alloc: Global, tree: &Tree) -> Result<Network, ShapeFault>
+    ensures network { IfOk result (λ network. net_network tree.now ≡ Ok network) }
+    ensures cause { IfErr result (λ fault. (fault ≡ ShapeFault.Memory) ⊎ (net_network tree.now ≡ Err fault)) }
+{
+    let frequency = read_frequency(alloc, tree)?;
+    let seen = walk_over(alloc, frequency, tree)?;
+    rows_of(alloc, frequency, seen)
+}
+
+/// The network of what the walk met.
+fn rows_of(alloc: Global, frequency: u64, seen: Seen) -> Result<Network, ShapeFault>
+    requires frequency { frequency ≤ 1000000000000 }
+    requires few { IsFew seen }
+    ensures network { IfOk result (λ network. rows_of frequency seen ≡ Ok network) }
+    ensures cause { IfErr result (λ fault. (fault ≡ ShapeFault.Memory) ⊎ (rows_of frequency seen ≡ Err fault)) }
+{
+    let found = Found::new(alloc, seen)?;
+    let mut places = no_places(alloc, found.seen().interfaces.len())?;
+    let links = attach_all(alloc, &found, places.as_mut_slice())?;
+    rows_with(alloc, frequency, found, places.as_slice(), links)
+}
+
+/// The network of what the walk met, where all links are attached.
+fn rows_with(
+    alloc: Global,
+    frequency: u64,
+    found: Found,
+    places: &[Option<(u32, u32)>],
+    links: Vec<LinkRow>,
+) -> Result<Network, ShapeFault>
+    requires frequency { frequency ≤ 1000000000000 }
+    requires table { IsTable (attachments found) places.now }
+    requires links { links.items ≡ link_rows_from found 0 found.links }
+    ensures network { IfOk result (λ network. rows_with frequency found (attachments found) None ≡ Ok network) }
+    ensures cause { IfErr result (λ fault. (fault ≡ ShapeFault.Memory) ⊎ (rows_with frequency found (attachments found) None ≡ Err fault)) }
+{
+    let seen = found.seen();
+    let says = hosts_say(alloc, seen.hosts.len(), seen.sessions.as_slice())?;
+    let hosts = host_rows(alloc, &found, places, says.as_slice(), frequency)?;
+    let servers = server_rows(alloc, &found, places)?;
+    let interfaces = interface_rows(alloc, places, seen.interfaces.as_slice())?;
+    let sessions = session_rows(alloc, seen.sessions.as_slice())?;
+    let patterns = servers.len() as u32;
+    let seen = found.into_seen();
+    Ok(Network {
+        frequency,
+        patterns,
+        nets: seen.nets,
+        hosts: ListOf::from_vec(hosts),
+        interfaces: ListOf::from_vec(interfaces),
+        links: ListOf::from_vec(links),
+        sessions: ListOf::from_vec(sessions),
+        servers: ListOf::from_vec(servers),
+    })
 }

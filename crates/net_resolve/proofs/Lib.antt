@@ -1,0 +1,7 @@
+-- Lemmas on the tables and rows of a network.
+pub mod Attaching
+pub mod Firsts
+pub mod LinkRows
+pub mod Rows
+pub mod Saying
+pub mod Turns
