@@ -1,6 +1,7 @@
 //! The network of a resolved tree.
 ghost use Rattle.std.specs.Prelude.{◌≡◌, ◌≤◌, ◌⊎◌, None, Ok, Err, IfOk, IfErr};
 ghost use Rattle.dml_tree.specs.TreeView.{attributes};
+ghost use Rattle.net_graph.specs.Networks.{IsNetwork};
 ghost use Rattle.net_graph.specs.NetworkOf.{network_of, net_network, rows_of, rows_with, attachments};
 ghost use Rattle.net_graph.specs.Steps.{IsFew};
 ghost use Rattle.net_resolve.specs.Tables.{IsTable, link_rows_from};
@@ -23,6 +24,7 @@ use std::alloc::Global;
 /// clients and servers, in the order of patterns; and `Memory`.
 pub fn build_network(alloc: Global, tree: &Tree) -> Result<Network, ShapeFault>
     ensures network { IfOk result (λ network. network_of (attributes tree.now) ≡ Ok network) }
+    ensures lawful { IfOk result (λ network. IsNetwork network) }
     ensures cause { IfErr result (λ fault. (fault ≡ ShapeFault.Memory) ⊎ (network_of (attributes tree.now) ≡ Err fault)) }
 {
     let Some(net) = first_list(tree, b"Net") else {

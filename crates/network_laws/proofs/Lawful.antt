@@ -339,7 +339,7 @@ seen_if (Err fault) P h = tt
 seen_met : (f : ℕ) → IsFrequency f → (tree : Attributes) → IfOk (seen_by f (walk f tree)) (IsMet f)
 seen_met f is tree = subst (λ (r : Read Seen). IfOk r (IsMet f)) (walk_is f (walk f tree)) (seen_if (walked f empty (walk f tree)) (IsMet f) (λ w e. walk_met f is tree w e))
 
-net_lawful : (o : Option Attributes) → IfOk (network_or o) IsNetwork
+pub net_lawful : (o : Option Attributes) → IfOk (network_or o) IsNetwork
 net_lawful None = tt
 net_lawful (Some tree) =
     then_if IsFrequency IsNetwork (frequency_of (attributes tree)) _ (frequency_if (attributes tree)) (λ f is.
