@@ -20,16 +20,11 @@ position-map f p xs =
     ap (λ (n : ℕ). cond (nat_lt n (length (map f xs))) (Some n) None) (position_or_len-map f p xs)
     ∙ ap (λ (m : ℕ). cond (nat_lt (position_or_len (λ x. p (f x)) xs) m) (Some (position_or_len (λ x. p (f x)) xs)) None) (long-map f xs)
 
--- a key that is not there goes last
-pub key_added : {K : Type 0} (there : Bool) (new keys now : List K) (key : K) → new ≡ (if there then keys else keys ++ key ∷ []) → keys ≡ now → there ≡ false → new ≡ now ++ key ∷ []
-key_added true new keys now key e same f = cc
-key_added false new keys now key e same f = e ∙ ap (λ l. l ++ key ∷ []) same
-
 map-last : {X Y : Type 0} (f : X → Y) (xs : List X) (x : X) → map f (xs ++ x ∷ []) ≡ map f xs ++ f x ∷ []
 map-last f [] x = refl
 map-last f (y ∷ xs) x = ap (λ l. f y ∷ l) (map-last f xs x)
 
--- the same of what is seen of the keys
+-- a key that is not there goes last among what is seen of the keys
 pub seen_added : {K Y : Type 0} (f : K → Y) (there : Bool) (new keys : List K) (now : List Y) (key : K) (seen : Y) →
     new ≡ (if there then keys else keys ++ key ∷ []) → map f keys ≡ now → there ≡ false → f key ≡ seen → map f new ≡ now ++ seen ∷ []
 seen_added f true new keys now key seen e same none is = cc

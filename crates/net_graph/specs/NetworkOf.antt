@@ -1,7 +1,7 @@
 -- The network of a resolved tree: what the walk over its Net met, with the addresses that its parts name looked up.
-use Rattle.std.specs.Prelude.{ℕ, Bool, true, false, ◌+◌, ◌-◌, ◌&&◌, nat_eq, nat_le, List, [], ◌∷◌, ◌++◌, length, map, filter, position, sum, Option, Some, None, Result, Ok, Err, codes, is_some, not, if◌then◌else◌}
-use Rattle.std.specs.List.{filter_map, list_any, flat_map}
-use Rattle.std.specs.Option.{unwrap_or, option_map}
+use Rattle.std.specs.Prelude.{ℕ, Bool, true, false, ◌+◌, ◌&&◌, nat_eq, List, [], ◌∷◌, ◌++◌, length, map, position, Option, Some, None, Ok, Err, codes, is_some, if◌then◌else◌}
+use Rattle.std.specs.List.{list_any}
+use Rattle.std.specs.Option.{unwrap_or}
 use Rattle.dml_tree.specs.declared.tree.Attribute.{Attribute}
 use Rattle.dml_tree.specs.Attributes.{Attributes}
 use Rattle.dml_tree.specs.TreeView.{attributes}
@@ -11,7 +11,6 @@ use Rattle.sim_base.specs.declared.records.ServerRow.{ServerRow}
 use Rattle.net_graph.specs.declared.fault.ShapeFault.{ShapeFault}
 use Rattle.net_graph.specs.declared.fault.ShapeFault.TheVariants.{NoModel, UnknownNhi, AttachedTwice}
 use Rattle.net_graph.specs.declared.rows.Network.{Network}
-use Rattle.net_graph.specs.declared.rows.NetRow.{NetRow}
 use Rattle.net_graph.specs.declared.rows.HostRow.{HostRow}
 use Rattle.net_graph.specs.declared.rows.Gateway.{Gateway}
 use Rattle.net_graph.specs.declared.rows.InterfaceRow.{InterfaceRow}
@@ -31,7 +30,7 @@ use Rattle.net_graph.specs.declared.seen.Seen.{Seen}
 use Rattle.net_graph.specs.Keys.{lists_of, first_of}
 use Rattle.net_graph.specs.Names.{same}
 use Rattle.net_graph.specs.Reads.{Read, then_read}
-use Rattle.net_graph.specs.ListKeys.{frequency_of, link_keys, default_tcp}
+use Rattle.net_graph.specs.ListKeys.{frequency_of, default_tcp}
 use Rattle.net_graph.specs.SeenRows.{first_some, fault_if}
 use Rattle.net_graph.specs.Visits.{walk}
 use Rattle.net_graph.specs.WalkedNets.{seen_by}

@@ -1,4 +1,5 @@
--- How what the walk has met grows visit by visit.
+-- How what the walk has met grows visit by visit. Of this file a public clause cites only `IsFew`: the rest is the form
+-- in which the walk is proved, and proofs show that it says the same as WalkedNets.
 use Rattle.std.specs.Prelude.{ℕ, Bool, true, false, ◌≡◌, ◌+◌, ◌≤◌, ◌||◌, List, [], ◌∷◌, ◌++◌, length, Option, Some, None, Ok, Err, codes}
 use Rattle.std.specs.List.{All, count_by}
 use Rattle.std.specs.Option.{ForSome}

@@ -6,14 +6,17 @@ use nhi_address::Nhi;
 use sim_base::{Memory, Text};
 use std::alloc::{AllocError, AllocFailed, Global};
 
-/// Why a tree has no model that can run. A text is the key, the kind or the spelling at fault.
+/// Why a tree has no model that can run. A text is the key, the kind, the name or the spelling at
+/// fault.
 #[derive(Drop)]
 pub enum ShapeFault {
     /// This text is no NHI, or one with an interface where none is wanted, or the other way round.
     BadNhi(Text),
     /// There is no list `Net` and no list `ring`.
     NoModel,
-    /// The value of this key is no number, or not in its range.
+    /// The value of this key is no number, or not in its range; a list where a text is wanted; another
+    /// spelling than those of `transport`; a range of ids that falls (`idrange`); or a time in which a
+    /// link is down that is empty (`down`).
     BadNumber(Text),
     /// This key has to stand, and does not.
     Missing(Text),
@@ -21,11 +24,13 @@ pub enum ShapeFault {
     DoubleId(Nhi),
     /// Nothing has this NHI, or it is not where it would have to be.
     UnknownNhi(Nhi),
-    /// Two links attach this interface.
+    /// Two links attach this interface, or one link twice.
     AttachedTwice(Nhi),
     /// No session has this name.
     UnknownSession(Text),
-    /// There are more of this kind than the limit.
+    /// There are more of this kind than the limit: `nets`, `hosts` (with routers), `interfaces`,
+    /// `links`, `sessions`, `patterns` (the servers of all patterns), `downs` (the times in which links
+    /// are down), `transfers` or `routes`.
     TooMany(Text),
     /// The addresses of the network need more than the greatest block.
     NoSpace,

@@ -38,6 +38,9 @@ impl IdPath {
     }
 
     /// A Net or a host of this Net.
+    ///
+    /// # Errors
+    /// `Memory` where there was no memory.
     pub fn child(&self, alloc: Global, id: u32) -> Result<IdPath, Memory>
         requires { IsId id }
         ensures { IfOk result (λ path. path ≡ self.now ++ id ∷ []) }
@@ -48,6 +51,9 @@ impl IdPath {
     }
 
     /// The same ids once more.
+    ///
+    /// # Errors
+    /// `Memory` where there was no memory.
     pub fn copied(&self, alloc: Global) -> Result<IdPath, Memory>
         ensures { IfOk result (λ path. path ≡ self.now) }
     {
@@ -63,6 +69,9 @@ impl IdPath {
     }
 
     /// The address of this host, or of one of its interfaces.
+    ///
+    /// # Errors
+    /// `Memory` where there was no memory.
     pub fn address(&self, alloc: Global, interface: Option<u32>) -> Result<Nhi, Memory>
         requires some { 0 < length self.now }
         requires interface { ForSome interface IsId }
@@ -73,6 +82,9 @@ impl IdPath {
     }
 
     /// An address that is relative to this Net, in full.
+    ///
+    /// # Errors
+    /// `Memory` where there was no memory.
     pub fn full(&self, alloc: Global, nhi: &Nhi) -> Result<Nhi, Memory>
         ensures { IfOk result (λ whole. whole ≡ record { ids = self.now ++ nhi.now.ids; interface = nhi.now.interface }) }
     {

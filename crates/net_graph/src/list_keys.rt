@@ -16,8 +16,8 @@ use nhi_address::{IdRange, Nhi, NhiFault, read_nhi};
 use sim_base::{ClientRow, ListOf, TcpConfig};
 use std::alloc::Global;
 
-/// What an interface's keys say: its rate in bit/s, its latency in ticks, its buffer in bytes, and
-/// its cost to OSPF.
+/// What an interface's keys say: its rate (1 to 10^12 bit/s), its latency (up to 10^18 ticks), its
+/// buffer (1 to 2^31 bytes), and its cost to OSPF (1 to 65,535).
 #[derive(Clone, Copy, Debug, PartialEq, Eq)]
 pub struct InterfaceKeys {
     pub bitrate: u64,
@@ -26,15 +26,16 @@ pub struct InterfaceKeys {
     pub cost: u32,
 }
 
-/// A default route: the id of the interface by which it leaves, and perhaps the next hop.
+/// A default route: the id of the interface by which it leaves (at most 2^31 - 1), and perhaps the next
+/// hop, which is an interface.
 #[derive(Drop)]
 pub struct GatewayKeys {
     pub interface: u32,
     pub next: Option<Nhi>,
 }
 
-/// What a link's keys say: the interfaces that it attaches, its delay in ticks, its priority, and
-/// when it is down.
+/// What a link's keys say: the interfaces that it attaches, of which there is at least one, its delay
+/// (up to 10^18 ticks), its priority (0 to 255; the smaller goes first), and when it is down.
 #[derive(Drop)]
 pub struct LinkKeys {
     pub attached: ListOf<Nhi>,
@@ -46,14 +47,19 @@ pub struct LinkKeys {
 /// What a session's keys say.
 #[derive(Clone, Copy, Debug, PartialEq, Eq)]
 pub enum SessionKeys {
+    /// `ip`, `udp` or `socket`: without an effect.
     Silent,
+    /// `OSPF` or `ospf`.
     Ospf,
+    /// `tcp`, with its settings.
     Tcp(TcpConfig),
+    /// `client`, with its keys.
     Client(ClientRow),
+    /// `server`, with its port (1 to 65,535).
     Server(u16),
 }
 
-/// A server of a traffic pattern: its NHI, with or without an interface, and its port.
+/// A server of a traffic pattern: its NHI, with or without an interface, and its port (1 to 65,535).
 #[derive(Drop)]
 pub struct ServerKeys {
     pub nhi: Nhi,
@@ -188,6 +194,9 @@ fn nhi_of_kind_in(
 }
 
 /// The ticks of a second, from the top Net's keys: 1 to 10^12, and 10^9 where they are silent.
+///
+/// # Errors
+/// `BadNumber` with `frequency`, or `Memory`.
 pub fn read_frequency(alloc: Global, net: &Tree) -> Result<u64, ShapeFault>
     ensures read { IfOk result (λ frequency. frequency_of (attributes net.now) ≡ Ok frequency) }
     ensures range { IfOk result (λ frequency. (1 ≤ frequency) × (frequency ≤ 1000000000000)) }
@@ -232,6 +241,9 @@ fn read_range(alloc: Global, range: &Tree) -> Result<IdRange, ShapeFault>
 }
 
 /// The ids of the copies that a list makes: its `id`, and else its `idrange`.
+///
+/// # Errors
+/// `BadNumber` with `id` or `idrange`; `Missing` with `id`, `from` or `to`; `Memory`.
 pub fn read_ids(alloc: Global, list: &Tree) -> Result<IdRange, ShapeFault>
     ensures read { IfOk result (λ ids. ids_at (attributes list.now) ≡ Ok ids) }
     ensures range { IfOk result (λ ids. (ids.from ≤ ids.to) × (ids.to < 2147483648)) }
@@ -247,7 +259,10 @@ pub fn read_ids(alloc: Global, list: &Tree) -> Result<IdRange, ShapeFault>
     }
 }
 
-/// The keys of an interface.
+/// The keys of an interface, where a second has so many ticks.
+///
+/// # Errors
+/// `BadNumber` with `bitrate`, `latency`, `buffer` or `cost`; `Memory`.
 pub fn read_interface(
     alloc: Global,
     interface: &Tree,
@@ -337,6 +352,10 @@ fn read_route(alloc: Global, route: &Tree) -> Result<GatewayKeys, ShapeFault>
 }
 
 /// The default route of a host or router.
+///
+/// # Errors
+/// `BadNumber` with `dest`, `interface` or `next_hop`; `Missing` with `interface`; `BadNhi` with a next
+/// hop that is no NHI, or one without an interface; `Memory`.
 pub fn read_gateway(alloc: Global, host: &Tree) -> Result<Option<GatewayKeys>, ShapeFault>
     ensures read { IfOk result (λ keys. gateway_of (attributes host.now) ≡ Ok keys) }
     ensures range { IfOk result (λ keys. ForSome keys (λ k. k.interface < 2147483648)) }
@@ -436,7 +455,13 @@ fn read_downs(
     Ok(downs)
 }
 
-/// The keys of a link, where the model has so many times in which a link is down before.
+/// The keys of a link, where a second has so many ticks, and the model has so many times in which a link
+/// is down before.
+///
+/// # Errors
+/// `BadNhi` with an attachment that is no NHI, or one without an interface; `Missing` with `attach`,
+/// `from` or `to`; `BadNumber` with `attach`, `delay`, `priority` or `down`; `TooMany` with `downs`;
+/// `Memory`.
 pub fn read_link(
     alloc: Global,
     link: &Tree,
@@ -583,7 +608,11 @@ fn read_named_session(
     }
 }
 
-/// The keys of a session.
+/// The keys of a session, where a second has so many ticks.
+///
+/// # Errors
+/// `Missing` with `name`, or with `port` of a `server`; `UnknownSession` with another name; `BadNumber`
+/// with the key; `Memory`.
 pub fn read_session(
     alloc: Global,
     session: &Tree,
@@ -601,6 +630,10 @@ pub fn read_session(
 }
 
 /// The client of a traffic pattern.
+///
+/// # Errors
+/// `Missing` or `BadNumber` with `client`; `BadNhi` with a client that is no NHI, or one with an
+/// interface; `Memory`.
 pub fn read_client(alloc: Global, pattern: &Tree) -> Result<Nhi, ShapeFault>
     ensures read { IfOk result (λ nhi. client_of (attributes pattern.now) ≡ Ok nhi) }
     ensures cause { IfErr result (λ fault. (fault ≡ ShapeFault.Memory) ⊎ (client_of (attributes pattern.now) ≡ Err fault)) }
@@ -623,6 +656,9 @@ fn read_server_nhi(alloc: Global, server: &Tree) -> Result<Nhi, ShapeFault>
 }
 
 /// The keys of a server of a traffic pattern.
+///
+/// # Errors
+/// `Missing` or `BadNumber` with `nhi` or `port`; `BadNhi` with a server that is no NHI; `Memory`.
 pub fn read_server(alloc: Global, server: &Tree) -> Result<ServerKeys, ShapeFault>
     ensures read { IfOk result (λ keys. server_keys (attributes server.now) ≡ Ok keys) }
     ensures cause { IfErr result (λ fault. (fault ≡ ShapeFault.Memory) ⊎ (server_keys (attributes server.now) ≡ Err fault)) }

@@ -1,7 +1,7 @@
-//! Tables of names: a name's number is its place in the order in which names were added.
+//! A table of names: a name's number is its place in the order in which names were added.
 ghost use Rattle.std.specs.Prelude.{◌≡◌, ◌++◌, [], ◌∷◌, false, length, position, OnOk, OnErr};
 ghost use Rattle.std.specs.List.{list_any};
-ghost use Rattle.net_graph.specs.Names.{same, same_pair};
+ghost use Rattle.net_graph.specs.Names.{same};
 
 use indexmap::IndexSet;
 use sim_base::Memory;
@@ -54,6 +54,9 @@ impl Paths {
     }
 
     /// Adds a path that is not there.
+    ///
+    /// # Errors
+    /// `Memory` where there was no memory; then nothing is added.
     pub fn add(&mut self, alloc: Global, path: &[u32]) -> Result<(), Memory>
         requires { list_any (same path.now) self.old ≡ false }
         ensures added { OnOk result (self.new ≡ self.old ++ path.now ∷ []) }
@@ -61,55 +64,6 @@ impl Paths {
     {
         let name = Vec::from_slice(alloc, path)?;
         self.names.insert(name)?;
-        Ok(())
-    }
-}
-
-/// The numbers of hosts with the ids of their interfaces. Contracts see the list.
-#[derive(Drop)]
-pub struct Pairs {
-    names: IndexSet<(u32, u32)>,
-}
-
-impl Model for Pairs {
-    ghost use Rattle.std.specs.Prelude.{List, ℕ};
-
-    ghost Value = { List (ℕ × ℕ) };
-
-    ghost view = { λ p. p.names.keys };
-}
-
-impl Pairs {
-    /// No pairs.
-    pub fn new(alloc: Global) -> Pairs
-        ensures { result ≡ [] }
-    {
-        Pairs {
-            names: IndexSet::new(alloc),
-        }
-    }
-
-    /// The number of a pair.
-    pub fn number_of(&self, host: u32, id: u32) -> Option<usize>
-        ensures { result ≡ position (same_pair host id) self.now }
-    {
-        self.names.get_index_of(&(host, id))
-    }
-
-    /// Whether a pair is there.
-    pub fn has(&self, host: u32, id: u32) -> bool
-        ensures { result ≡ list_any (same_pair host id) self.now }
-    {
-        self.names.contains(&(host, id))
-    }
-
-    /// Adds a pair that is not there.
-    pub fn add(&mut self, host: u32, id: u32) -> Result<(), Memory>
-        requires { list_any (same_pair host id) self.old ≡ false }
-        ensures added { OnOk result (self.new ≡ self.old ++ (host, id) ∷ []) }
-        ensures kept { OnErr result (self.new ≡ self.old) }
-    {
-        self.names.insert((host, id))?;
         Ok(())
     }
 }

@@ -3,7 +3,8 @@
 
 use sim_base::{ClientRow, ListOf, ServerRow, TcpConfig};
 
-/// A network. `frequency` is in ticks a second, and `patterns` counts the servers of all patterns.
+/// A network. `frequency` is in ticks a second, from 1 to 10^12, and `patterns` counts the servers of
+/// all patterns.
 #[derive(Drop)]
 pub struct Network {
     pub frequency: u64,
@@ -46,9 +47,9 @@ pub struct Gateway {
     pub next: Option<u32>,
 }
 
-/// An interface: the number of its host, its id, its rate in bit/s, its latency in ticks, its buffer
-/// in bytes, its cost to OSPF, and where a link attaches it, the number of the link and the place
-/// among the link's attachments.
+/// An interface: the number of its host, its id, its rate (1 to 10^12 bit/s), its latency (up to 10^18
+/// ticks), its buffer (1 to 2^31 bytes), its cost to OSPF (1 to 65,535), and where a link attaches it,
+/// the number of the link and the place among the link's attachments.
 #[derive(Clone, Copy, Debug, PartialEq, Eq)]
 pub struct InterfaceRow {
     pub host: u32,
@@ -60,9 +61,9 @@ pub struct InterfaceRow {
     pub link: Option<(u32, u32)>,
 }
 
-/// A link: the number of its Net, its place among the links and Nets of that one, its delay in
-/// ticks, the numbers of the interfaces that it attaches, its priority (the smaller goes first), and
-/// the times, in ticks, from which and up to which it is down.
+/// A link: the number of its Net, its place among the links and Nets of that one, its delay (up to
+/// 10^18 ticks), the numbers of the interfaces that it attaches, its priority (0 to 255; the smaller
+/// goes first), and the times in which it is down.
 #[derive(Drop)]
 pub struct LinkRow {
     pub net: u32,
@@ -73,7 +74,7 @@ pub struct LinkRow {
     pub downs: ListOf<Down>,
 }
 
-/// A time in which a link is down: at each tick t with `from` ≤ t < `to`.
+/// A time in which a link is down: at each tick t with `from` ≤ t < `to`. Both are up to 10^18 ticks.
 #[derive(Clone, Copy, Debug, PartialEq, Eq)]
 pub struct Down {
     pub from: u64,
@@ -94,7 +95,7 @@ pub enum SessionKind {
     Silent,
     /// The host relays, and has the routes of OSPF.
     Ospf,
-    /// The host has TCP.
+    /// Sets the host's TCP; the first one counts.
     Tcp,
     /// Transfers to the servers of the host's patterns.
     Client(ClientRow),

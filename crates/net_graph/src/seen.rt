@@ -52,7 +52,9 @@ pub struct ServerSeen {
 /// A traffic pattern, or a server of the pattern that came last.
 #[derive(Drop)]
 pub enum TrafficSeen {
+    /// A traffic pattern.
     Pattern(PatternSeen),
+    /// A server of the pattern that came last before it.
     Server(ServerSeen),
 }
 

@@ -1,6 +1,6 @@
 use crate::{
-    Pairs, Paths, SessionKeys, ShapeFault, bad_number, default_settings, first_list, first_value,
-    is_net, missing, number_in, read_client, read_frequency, read_gateway, read_ids, read_integer,
+    Paths, SessionKeys, ShapeFault, bad_number, default_settings, first_list, first_value, is_net,
+    missing, number_in, read_client, read_frequency, read_gateway, read_ids, read_integer,
     read_interface, read_link, read_seconds, read_server, read_session, walk_over,
 };
 use dml_tree::{Tree, read};
@@ -436,20 +436,15 @@ fn keys_that_are_silent_have_their_defaults(rt: HostRuntime) -> Result<(), Fail>
 #[test]
 fn names_are_numbered_in_the_order_in_which_they_came(rt: HostRuntime) -> Result<(), Fail> {
     let mut paths = Paths::new(rt.alloc());
-    let mut pairs = Pairs::new(rt.alloc());
     for id in 0..3u32 {
         let path = [7, id];
         if !paths.has(path.as_slice()) {
             assert!(rt; paths.add(rt.alloc(), path.as_slice()).is_ok());
         }
-        if !pairs.has(id, 9) {
-            assert!(rt; pairs.add(id, 9).is_ok());
-        }
     }
     assert_eq!(rt; paths.number_of([7, 2].as_slice()), Some(2));
     assert_eq!(rt; paths.number_of([7].as_slice()), None);
-    assert_eq!(rt; pairs.number_of(1, 9), Some(1));
-    assert_eq!(rt; pairs.number_of(9, 1), None);
+    assert_eq!(rt; paths.len(), 3);
     Ok(())
 }
 

@@ -36,6 +36,10 @@ fn list_at<'a>(attribute: &'a Attribute, key: &[u8]) -> Option<&'a Tree>
 }
 
 /// The walk over the tree of a top Net, where a second has so many ticks.
+///
+/// # Errors
+/// The first fault that the walk meets: `BadNumber`, `Missing`, `BadNhi`, `UnknownSession`,
+/// `DoubleId`, `TooMany`; and `Memory`.
 pub fn walk_over(alloc: Global, frequency: u64, tree: &Tree) -> Result<Seen, ShapeFault>
     requires { frequency ≤ 1000000000000 }
     ensures seen { IfOk result (λ seen. seen_by frequency (walk frequency tree.now) ≡ Ok seen) }

@@ -1,7 +1,6 @@
 -- The definitions on worked texts.
-use Rattle.std.specs.Prelude.{◌≡◌, ℕ, [], ◌∷◌, Option, Some, None, codes}
+use Rattle.std.specs.Prelude.{◌≡◌, [], ◌∷◌, Some, None, codes}
 use Rattle.std.proofs.Common.{refl}
-use Rattle.nhi_address.specs.NhiFields.{NhiFields}
 use Rattle.nhi_address.specs.NhiText.{nhi_of}
 
 zero_is_a_host : nhi_of (codes "0") ≡ Some (record { ids = 0 ∷ []; interface = None })

@@ -35,6 +35,9 @@ impl Model for Nhi {
 
 impl Nhi {
     /// The NHI with these ids, of which the last one is the host's.
+    ///
+    /// # Errors
+    /// `Memory` where there was no memory.
     pub fn new(alloc: Global, ids: &[u32], interface: Option<u32>) -> Result<Nhi, Memory>
         requires some { 0 < length ids.now }
         requires within { All IsId ids.now }
@@ -55,7 +58,8 @@ impl Nhi {
     }
 }
 
-/// A range of ids: from the first to the last one.
+/// A range of ids: from the first to the last one, which belongs to it. Where keys were read, `from` is
+/// at most `to`, and both are at most `MOST_ID`.
 #[derive(Clone, Copy, Debug, PartialEq, Eq)]
 pub struct IdRange {
     pub from: u32,
@@ -63,6 +67,9 @@ pub struct IdRange {
 }
 
 /// Puts the ids of a Net in front of an NHI that is relative to it.
+///
+/// # Errors
+/// `Memory` where there was no memory.
 pub fn under(alloc: Global, net: &[u32], nhi: &Nhi) -> Result<Nhi, Memory>
     requires { All IsId net.now }
     ensures ids { IfOk result (λ whole. whole.ids ≡ net.now ++ nhi.now.ids) }
@@ -76,8 +83,10 @@ pub fn under(alloc: Global, net: &[u32], nhi: &Nhi) -> Result<Nhi, Memory>
     })
 }
 
-/// Appends the text of an NHI; `read_nhi` reads it back as the same NHI. Without memory nothing is
-/// appended.
+/// Appends the text of an NHI; `read_nhi` reads it back as the same NHI.
+///
+/// # Errors
+/// `Memory` where there was no memory; then nothing is appended.
 pub fn print_nhi(nhi: &Nhi, out: &mut Vec<u8>) -> Result<(), Memory>
     ensures appended { OnOk result (out.new.items ≡ out.old.items ++ nhi_text nhi.now) }
     ensures kept { OnErr result (out.new.items ≡ out.old.items) }
