@@ -218,6 +218,7 @@ fn ids_and_their_ranges_have_their_keys(rt: HostRuntime) -> Result<(), Fail> {
         (b"idrange [ from x ]", "Missing to"),
         (b"idrange [ to x ]", "Missing from"),
         (b"idrange [ from 1 to [ ] ]", "BadNumber idrange"),
+        (b"idrange [ from [ ] to 1 ]", "BadNumber idrange"),
         (b"idrange [ from 0 to 2147483648 ]", "BadNumber idrange"),
     ];
     check_keys(&rt, Keys::Ids, rows.as_slice())
@@ -242,6 +243,10 @@ fn interfaces_have_their_keys(rt: HostRuntime) -> Result<(), Fail> {
             "ok",
         ),
         (b"cost x latency x", "BadNumber latency"),
+        (b"bitrate [ ]", "BadNumber bitrate"),
+        (b"buffer [ ]", "BadNumber buffer"),
+        (b"cost [ ]", "BadNumber cost"),
+        (b"bitrate 1 buffer 1 cost 1", "ok"),
     ];
     check_keys(&rt, Keys::Interface, rows.as_slice())
 }
@@ -261,6 +266,10 @@ fn default_routes_have_their_keys(rt: HostRuntime) -> Result<(), Fail> {
         (
             b"route [ dest default interface 2147483647 next_hop 1 ]",
             "BadNhi 1",
+        ),
+        (
+            b"route [ dest default interface [ ] ]",
+            "BadNumber interface",
         ),
         (
             b"route [ dest default interface 0 next_hop [ ] ]",
@@ -299,6 +308,18 @@ fn links_have_their_keys(rt: HostRuntime) -> Result<(), Fail> {
 }
 
 #[test]
+fn numbers_and_times_of_links_have_their_keys(rt: HostRuntime) -> Result<(), Fail> {
+    let rows = [
+        (b"attach 1(0) delay [ ]".as_slice(), "BadNumber delay"),
+        (b"attach 1(0) delay 1000000000.1", "BadNumber delay"),
+        (b"attach 1(0) delay 1000000000", "ok"),
+        (b"attach 1(0) priority [ ]", "BadNumber priority"),
+        (b"attach 1(0) down [ from [ ] to 1 ]", "BadNumber down"),
+    ];
+    check_keys(&rt, Keys::Link, rows.as_slice())
+}
+
+#[test]
 fn times_down_of_links_have_their_keys(rt: HostRuntime) -> Result<(), Fail> {
     let rows = [
         (
@@ -324,9 +345,27 @@ fn sessions_have_their_keys(rt: HostRuntime) -> Result<(), Fail> {
         (b"name server", "Missing port"),
         (b"name server port 0", "BadNumber port"),
         (b"name server port 65536", "BadNumber port"),
+        (b"name server port [ ]", "BadNumber port"),
+        (b"name server port 1", "ok"),
         (b"name server port 65535", "ok"),
         (b"name client transport TCP", "BadNumber transport"),
         (b"name client transport [ ]", "BadNumber transport"),
+    ];
+    check_keys(&rt, Keys::Session, rows.as_slice())
+}
+
+#[test]
+fn keys_of_client_sessions_are_texts(rt: HostRuntime) -> Result<(), Fail> {
+    let rows = [
+        (
+            b"name client start_time [ ]".as_slice(),
+            "BadNumber start_time",
+        ),
+        (b"name client start_window [ ]", "BadNumber start_window"),
+        (b"name client file_size [ ]", "BadNumber file_size"),
+        (b"name client datagram_size [ ]", "BadNumber datagram_size"),
+        (b"name client send_interval [ ]", "BadNumber send_interval"),
+        (b"name client datagram_size 1", "ok"),
     ];
     check_keys(&rt, Keys::Session, rows.as_slice())
 }
@@ -366,6 +405,26 @@ fn tcp_sessions_have_their_keys(rt: HostRuntime) -> Result<(), Fail> {
     let rows = [
         (b"name tcp MSL x tcpinit [ MSS 1 ]".as_slice(), "ok"),
         (b"name tcp tcpinit [ MSS x ]", "BadNumber MSS"),
+        (b"name tcp RcvWndSize 65536", "BadNumber RcvWndSize"),
+        (b"name tcp SendWndSize 0", "BadNumber SendWndSize"),
+        (b"name tcp MSS 1 RcvWndSize 1 SendWndSize 1", "ok"),
+        (
+            b"name tcp ISS 1073741824 MSS 65495 RcvWndSize 65535 SendWndSize 65535 MaxRexmitTimes 100",
+            "ok",
+        ),
+    ];
+    check_keys(&rt, Keys::Session, rows.as_slice())
+}
+
+#[test]
+fn keys_of_tcp_sessions_are_texts(rt: HostRuntime) -> Result<(), Fail> {
+    let rows = [
+        (b"name tcp ISS [ ]".as_slice(), "BadNumber ISS"),
+        (b"name tcp MSS [ ]", "BadNumber MSS"),
+        (b"name tcp RcvWndSize [ ]", "BadNumber RcvWndSize"),
+        (b"name tcp SendWndSize [ ]", "BadNumber SendWndSize"),
+        (b"name tcp MaxRexmitTimes [ ]", "BadNumber MaxRexmitTimes"),
+        (b"name tcp MSL [ ]", "BadNumber MSL"),
     ];
     check_keys(&rt, Keys::Session, rows.as_slice())
 }
@@ -389,6 +448,9 @@ fn servers_of_patterns_have_their_keys(rt: HostRuntime) -> Result<(), Fail> {
         (b"nhi ( port x", "BadNhi ("),
         (b"nhi [ ] port x", "BadNumber nhi"),
         (b"nhi 1(0) port x", "BadNumber port"),
+        (b"nhi 1 port [ ]", "BadNumber port"),
+        (b"nhi 1 port 0", "BadNumber port"),
+        (b"nhi 1 port 65536", "BadNumber port"),
         (b"nhi 1 port 1", "ok"),
     ];
     check_keys(&rt, Keys::Server, rows.as_slice())
@@ -556,6 +618,39 @@ fn walks_or_their_first_faults(rt: HostRuntime) -> Result<(), Fail> {
         (
             b"Net [ host [ id 0 interface [ idrange [ from 0 to 2147483647 ] ] ] ]",
             "TooMany interfaces",
+        ),
+    ];
+    check_walks(&rt, rows.as_slice())
+}
+
+#[test]
+fn sessions_of_all_hosts_have_a_limit(rt: HostRuntime) -> Result<(), Fail> {
+    let rows = [(
+        b"Net [ host [ idrange [ from 0 to 65535 ] graph [ ProtocolSession [ name ip ] ProtocolSession [ name ip ] ProtocolSession [ name ip ] ProtocolSession [ name ip ] ProtocolSession [ name ip ] ] ] ]".as_slice(),
+        "TooMany sessions",
+    )];
+    check_walks(&rt, rows.as_slice())
+}
+
+#[test]
+fn servers_of_all_patterns_have_a_limit(rt: HostRuntime) -> Result<(), Fail> {
+    let rows = [(
+        b"Net [ traffic [ pattern [ client 0 servers [ nhi 0 port 1 ] servers [ nhi 0 port 1 ] ] ] Net [ idrange [ from 0 to 65534 ] traffic [ pattern [ client 0 servers [ nhi 0 port 1 ] ] ] ] ]".as_slice(),
+        "TooMany patterns",
+    )];
+    check_walks(&rt, rows.as_slice())
+}
+
+#[test]
+fn times_down_of_all_links_have_a_limit(rt: HostRuntime) -> Result<(), Fail> {
+    let rows = [
+        (
+            b"Net [ Net [ idrange [ from 0 to 63 ] link [ attach 0(0) down [ from 0 to 1 ] ] ] ]".as_slice(),
+            "65 0 0 64 0 0",
+        ),
+        (
+            b"Net [ Net [ idrange [ from 0 to 64 ] link [ attach 0(0) down [ from 0 to 1 ] ] ] ]",
+            "TooMany downs",
         ),
     ];
     check_walks(&rt, rows.as_slice())
