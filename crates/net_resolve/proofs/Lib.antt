@@ -5,3 +5,4 @@ pub mod LinkRows
 pub mod Rows
 pub mod Saying
 pub mod Turns
+pub mod Worked
