@@ -16,7 +16,6 @@ use Rattle.ring_model.specs.declared.ring.Hop.{Hop}
 use Rattle.ring_model.specs.Rings.{ring_draft, with_hops}
 use Rattle.net_build.specs.declared.built.Built.{Built}
 use Rattle.net_build.specs.declared.ring.RingCounts.{RingCounts}
-pub use Rattle.net_build.specs.declared.ring.RingKeys.{RingKeys}
 pub use Rattle.net_graph.specs.Reads.{Read, then_read, read_each}
 
 -- the number below `end` of the first of these values, and what stands for none
@@ -36,6 +35,12 @@ needed key end xs = first_number key end (Err (Missing key)) (values_of key xs)
 -- the number of a key that is 0 where it does not stand
 abbrev pub optional : List ℕ → ℕ → List Attribute → Read ℕ
 optional key end xs = first_number key end (Ok 0) (values_of key xs)
+
+-- the nodes, the nodes that have a token at the start, one for each token, and the hops
+pub record RingKeys : Type 0 where
+  pub nodes : ℕ
+  pub tokens : List ℕ
+  pub hops : List Hop
 
 abbrev pub hop_of : ℕ → List Attribute → Read Hop
 hop_of nodes xs =

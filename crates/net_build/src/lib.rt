@@ -16,5 +16,5 @@ mod tests;
 mod text;
 
 pub use built::Built;
-pub use ring::{RingCounts, RingKeys, ring_counts, ring_plan, ring_text};
+pub use ring::{RingCounts, ring_counts, ring_plan, ring_text};
 pub use text::plan_text;

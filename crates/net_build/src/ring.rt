@@ -101,10 +101,10 @@ pub fn ring_counts(alloc: Global, tree: &Tree) -> Result<RingCounts, ShapeFault>
 /// # Errors
 /// `DelayTooLong` where a hop's delay is above 10^15 ticks, else `TooManyChannels` where the nodes
 /// and hops together are above 262,144.
-fn check_size(keys: &RingKeys) -> Result<(), ShapeFault>
+fn check_size(keys: &Keys) -> Result<(), ShapeFault>
     requires { keys.now.nodes ≤ 65536 }
-    ensures built { OnOk result (build keys.now ≡ Ok (built_of keys.now)) }
-    ensures cause { IfErr result (λ fault. build keys.now ≡ Err fault) }
+    ensures built { OnOk result (build (record { nodes = keys.now.nodes; tokens = keys.now.tokens; hops = keys.now.hops }) ≡ Ok (built_of (record { nodes = keys.now.nodes; tokens = keys.now.tokens; hops = keys.now.hops }))) }
+    ensures cause { IfErr result (λ fault. build (record { nodes = keys.now.nodes; tokens = keys.now.tokens; hops = keys.now.hops }) ≡ Err fault) }
 {
     if has_long_delay(keys.hops.as_slice()) {
         return Err(ShapeFault::DelayTooLong);
@@ -118,18 +118,18 @@ fn check_size(keys: &RingKeys) -> Result<(), ShapeFault>
 /// What a ring's keys say: how many nodes there are, the nodes that have a token at the start, one
 /// for each token, and the hops.
 #[derive(Drop)]
-pub struct RingKeys {
-    pub nodes: u32,
-    pub tokens: ListOf<u32>,
-    pub hops: ListOf<Hop>,
+struct Keys {
+    nodes: u32,
+    tokens: ListOf<u32>,
+    hops: ListOf<Hop>,
 }
 
 /// The keys of the ring that is the model of a tree.
 ///
 /// # Errors
 /// `NoModel` where there is no list `ring`, then the first fault of its keys; `Memory`.
-fn ring_keys(alloc: Global, tree: &Tree) -> Result<RingKeys, ShapeFault>
-    ensures read { IfOk result (λ keys. ring_of (attributes tree.now) ≡ Ok keys) }
+fn ring_keys(alloc: Global, tree: &Tree) -> Result<Keys, ShapeFault>
+    ensures read { IfOk result (λ keys. ring_of (attributes tree.now) ≡ Ok (record { nodes = keys.nodes; tokens = keys.tokens; hops = keys.hops })) }
     ensures nodes { IfOk result (λ keys. keys.nodes ≤ 65536) }
     ensures tokens { IfOk result (λ keys. All (λ t. t < keys.nodes) keys.tokens) }
     ensures hops { IfOk result (λ keys. All (λ h. (h.from < keys.nodes) × (h.to < keys.nodes)) keys.hops) }
@@ -142,7 +142,7 @@ fn ring_keys(alloc: Global, tree: &Tree) -> Result<RingKeys, ShapeFault>
     let nodes = number(alloc, ring, b"nodes", NODES_END, None)? as u32;
     let tokens = read_tokens(alloc, ring, nodes)?;
     let hops = read_hops(alloc, ring, nodes)?;
-    Ok(RingKeys {
+    Ok(Keys {
         nodes,
         tokens: ListOf::from_vec(tokens),
         hops: ListOf::from_vec(hops),
