@@ -113,6 +113,14 @@ pub sent_all : (IsDue : Due → Type 0) (answer : Result (Unit {0}) Refusal) (te
 sent_all IsDue (Ok unit) text faults faults' held held' is all part cause = inl (text, is, all)
 sent_all IsDue (Err r) text faults faults' held held' is all part cause = sent_part IsDue (done text) r faults faults' held held' is cause part
 
+-- a text that was made was written by one call, wholly or in part
+pub sent_once : (IsDue : Due → Type 0) (answer : Result (Unit {0}) Refusal) (text sent : List ℕ) (faults faults' : ℕ) (held held' : Option (List ℕ)) → IsDue (done text) → sent ≡ text
+    → OnOk answer (Appends sent held held') → OnErr answer (AppendsPrefix sent held held')
+    → IfErr answer (λ r. (r ≡ refusal.Write) × Rose faults faults') → Answers IsDue answer faults faults' held held'
+sent_once IsDue (Ok unit) text sent faults faults' held held' is same all part cause = inl (text, is, subst (λ (t : List ℕ). Appends t held held') same all)
+sent_once IsDue (Err r) text sent faults faults' held held' is same all part cause =
+    sent_part IsDue (done text) r faults faults' held held' is (inr cause) (subst (λ (t : List ℕ). AppendsPrefix t held held') same part)
+
 of_file : (files : Files) (asked : Asked) (o : Option Asked) (names : List (List ℕ)) (file : List ℕ) → o ≡ Some asked → names ≡ asked.files → IsReached files 0 names file
     → IsFileReached files o file
 of_file files asked o names file is same found = rw is (subst (λ (l : List (List ℕ)). IsReached files 0 l file) same found)

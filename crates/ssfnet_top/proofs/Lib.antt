@@ -1,3 +1,4 @@
+pub mod CountLines
 pub mod Endings
 pub mod FaultPlaces
 pub mod FilesRead

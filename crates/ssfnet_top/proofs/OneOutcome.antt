@@ -1,12 +1,22 @@
 -- There is at most one outcome.
-use Rattle.std.proofs.Common.{ℕ, ◌≡◌, ◌<◌, ◌≤◌, ◌+◌, ◌⊎◌, inl, inr, ◌∙◌, sym, ap, refl, true, false, List, [], ◌∷◌, Option, Some, None, IsSome, Result, Ok, Err, arith}
+use Rattle.std.proofs.Common.{ℕ, ◌≡◌, ◌<◌, ◌≤◌, ◌+◌, ◌⊎◌, inl, inr, ◌∙◌, sym, ap, refl, Bool, true, false, List, [], ◌∷◌, Option, Some, None, IsSome, Result, Ok, Err, arith}
 use Rattle.sim_base.specs.Outside.{Files}
 use Rattle.dml_tree.specs.Attributes.{Attributes}
-use Rattle.dml_tree.specs.TreeView.{joined}
+use Rattle.dml_tree.specs.TreeView.{attributes, joined}
 use Rattle.dml_tree.proofs.OneMeaning.{one_meaning}
 use Rattle.event_machine.specs.Machine.{within}
 use Rattle.event_machine.proofs.Steps.{before_end, lt_or_ge, lt_or_same}
+use Rattle.net_graph.specs.declared.fault.ShapeFault.{ShapeFault}
+use Rattle.net_graph.specs.declared.rows.Network.{Network}
+use Rattle.net_graph.specs.Keys.{has_net}
+use Rattle.net_graph.specs.Reads.{Read, then_read}
+use Rattle.net_graph.specs.Networks.{IsNetwork}
+use Rattle.net_graph.specs.NetworkOf.{network_of}
+use Rattle.net_layout.specs.Faults.{first_fault}
 use Rattle.net_build.specs.declared.built.Built.{Built}
+use Rattle.net_build.specs.PlanText.{ring_text_of}
+use Rattle.net_build.proofs.OneText.{plan_texts_one}
+use Rattle.network_laws.proofs.Lawful.{network_lawful}
 use Rattle.ring_model.specs.declared.ring.Ring.{Ring}
 use Rattle.ring_model.specs.declared.ring.RingState.{RingState}
 use Rattle.ring_model.specs.declared.ring.RingPayload.{RingPayload}
@@ -21,7 +31,7 @@ use Rattle.ssfnet_top.specs.declared.command.Command.{Command}
 use Rattle.ssfnet_top.specs.declared.command.Command.TheVariants as commands
 use Rattle.ssfnet_top.specs.declared.refusal.Refusal.{Refusal}
 use Rattle.ssfnet_top.specs.Words.{Asked, asked_of_words}
-use Rattle.ssfnet_top.specs.Outcome.{Due, done, meant, IsRead, AreRead, resolved_of, model_of, HasEvents, IsWithin, IsOver, IsModelRun, IsPrinted, IsCommandDue, IsTreeDue, IsAskedDue, IsOutcome}
+use Rattle.ssfnet_top.specs.Outcome.{Due, done, meant, IsRead, AreRead, resolved_of, shaped, model_of, unless, planned_network, counts_of, IsText, IsNetworkPlan, IsPlanIn, IsPlan, HasEvents, IsWithin, IsOver, IsModelRun, IsPrinted, IsCommandDue, IsTreeDue, IsAskedDue, IsOutcome}
 
 -- a file has one reading
 read_once : (name : List ℕ) (number : ℕ) (o : Option (List ℕ)) (a b : Result Attributes Refusal) → IsRead name number o a → IsRead name number o b → a ≡ b
@@ -89,9 +99,38 @@ printed_once : (tree : Result Attributes Refusal) (due other : Due) → IsPrinte
 printed_once (Ok tree) due other p q = p ∙ sym q
 printed_once (Err r) due other p q = p ∙ sym q
 
+text_once : (text : Result (List ℕ) Refusal) (due other : Due) → IsText text due → IsText text other → due ≡ other
+text_once (Ok text) due other p q = p ∙ sym q
+text_once (Err r) due other p q = p ∙ sym q
+
+unless_is : (o : Option ShapeFault) (network n : Network) → unless o network ≡ Ok n → network ≡ n
+unless_is None network n is = cc
+unless_is (Some fault) network n is = absurd (cc)
+
+planned_is : (r : Read Network) (n : Network) → then_read r (λ network. unless (first_fault network) network) ≡ Ok n → r ≡ Ok n
+planned_is (Ok network) n is = ap (λ (m : Network). Ok m) (unless_is (first_fault network) network n is)
+planned_is (Err fault) n is = absurd (cc)
+
+-- a network that is lawful has one plan
+network_plan_once : (r : Read Network) (due other : Due) → ((n : Network) → r ≡ Ok n → IsNetwork n) → IsNetworkPlan r due → IsNetworkPlan r other → due ≡ other
+network_plan_once (Ok network) due other lawful p q =
+    p.2 ∙ (ap (λ (text : List ℕ). done text) (plan_texts_one network p.0 q.0 (lawful network refl) p.1 q.1) ∙ sym q.2)
+network_plan_once (Err fault) due other lawful p q = p ∙ sym q
+
+plan_in_once : (is_net : Bool) (tree : Attributes) (due other : Due) → IsPlanIn is_net (attributes tree) due → IsPlanIn is_net (attributes tree) other → due ≡ other
+plan_in_once true tree due other p q =
+    network_plan_once (planned_network (attributes tree)) due other (λ n is. network_lawful tree n (planned_is (network_of (attributes tree)) n is)) p q
+plan_in_once false tree due other p q = text_once (shaped (ring_text_of (attributes tree))) due other p q
+
+plan_once : (tree : Result Attributes Refusal) (due other : Due) → IsPlan tree due → IsPlan tree other → due ≡ other
+plan_once (Ok tree) due other p q = plan_in_once (has_net (attributes tree)) tree due other p q
+plan_once (Err r) due other p q = p ∙ sym q
+
 command_once : (command : Command) (names : List (List ℕ)) (tree : Attributes) (due other : Due) → IsCommandDue command names tree due → IsCommandDue command names tree other → due ≡ other
 command_once (commands.Dml false) names tree due other p q = p ∙ sym q
 command_once (commands.Dml true) names tree due other p q = printed_once (resolved_of names tree) due other p q
+command_once commands.Check names tree due other p q = text_once (counts_of (resolved_of names tree)) due other p q
+command_once commands.Plan names tree due other p q = plan_once (resolved_of names tree) due other p q
 command_once (commands.Seq until budget) names tree due other p q = model_once until budget (model_of names tree) due other p q
 
 tree_once : (asked : Asked) (tree : Result Attributes Refusal) (due other : Due) → IsTreeDue asked tree due → IsTreeDue asked tree other → due ≡ other

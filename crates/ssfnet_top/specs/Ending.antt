@@ -23,15 +23,28 @@ IsFileOf asked name = IsSomeAnd asked (λ a. Contains a.files name)
 -- What a refusal names is of the command, whatever the files hold. Want of memory is no fault of a file or a model.
 abbrev pub HasBudget : Command → ℕ → Type 0
 HasBudget (commands.Dml flat) budget = ⊥
+HasBudget commands.Check budget = ⊥
+HasBudget commands.Plan budget = ⊥
 HasBudget (commands.Seq until most) budget = budget ≡ most
 
 abbrev pub Resolves : Command → Type 0
 Resolves (commands.Dml flat) = flat ≡ true
+Resolves commands.Check = Unit {0}
+Resolves commands.Plan = Unit {0}
 Resolves (commands.Seq until most) = Unit {0}
 
 abbrev pub HasModel : Command → Type 0
 HasModel (commands.Dml flat) = ⊥
+HasModel commands.Check = Unit {0}
+HasModel commands.Plan = Unit {0}
 HasModel (commands.Seq until most) = Unit {0}
+
+-- a Net cannot be run yet
+abbrev pub RunsModel : Command → Type 0
+RunsModel (commands.Dml flat) = ⊥
+RunsModel commands.Check = ⊥
+RunsModel commands.Plan = ⊥
+RunsModel (commands.Seq until most) = Unit {0}
 
 -- the file is that of the fault, and one of these
 abbrev pub IsFaultOf : List (List ℕ) → List ℕ → PathFault → Type 0
@@ -43,7 +56,7 @@ Concerns asked refusal.Words = asked ≡ None
 Concerns asked (refusal.Read file) = IsFileOf asked file
 Concerns asked (refusal.Dml file fault) = IsFileOf asked file × ¬ (fault ≡ tree_fault.Memory)
 Concerns asked (refusal.Path file fault) = IsSomeAnd asked (λ a. Resolves a.command × IsFaultOf a.files file fault)
-Concerns asked refusal.NotYet = IsSomeAnd asked (λ a. HasModel a.command)
+Concerns asked refusal.NotYet = IsSomeAnd asked (λ a. RunsModel a.command)
 Concerns asked (refusal.Shape fault) = IsSomeAnd asked (λ a. HasModel a.command) × ¬ (fault ≡ shape_fault.Memory)
 Concerns asked refusal.Write = IsSome asked
 Concerns asked (refusal.Budget budget) = IsSomeAnd asked (λ a. HasBudget a.command budget)
@@ -143,7 +156,7 @@ IsOfCommand command names refusal.Words = ⊥
 IsOfCommand command names (refusal.Read file) = ⊥
 IsOfCommand command names (refusal.Dml file fault) = ⊥
 IsOfCommand command names (refusal.Path file fault) = Resolves command × IsFaultOf names file fault
-IsOfCommand command names refusal.NotYet = HasModel command
+IsOfCommand command names refusal.NotYet = RunsModel command
 IsOfCommand command names (refusal.Shape fault) = HasModel command × ¬ (fault ≡ shape_fault.Memory)
 IsOfCommand command names refusal.Write = Unit {0}
 IsOfCommand command names (refusal.Budget budget) = HasBudget command budget

@@ -1,7 +1,8 @@
 -- What a command is to answer, by its words and the told files alone: the status, and the bytes that are due on
 -- `out` and on `err`.
-use Rattle.std.specs.Prelude.{ℕ, ◌≡◌, ◌+◌, ◌<◌, ◌≤◌, ◌⊎◌, if◌then◌else◌, true, false, slice_index_or, List, [], ◌∷◌, ◌++◌, Option, Some, None, IsSome, Result, Ok, Err}
+use Rattle.std.specs.Prelude.{ℕ, ◌≡◌, ◌+◌, ◌<◌, ◌≤◌, ◌⊎◌, Bool, if◌then◌else◌, true, false, slice_index_or, List, [], ◌∷◌, ◌++◌, Option, Some, None, IsSome, Result, Ok, Err}
 use Rattle.sim_base.specs.Outside.{Files}
+use Rattle.dml_tree.specs.declared.tree.Attribute.{Attribute}
 use Rattle.dml_tree.specs.Attributes.{Attributes, none}
 use Rattle.dml_tree.specs.TreeView.{attributes, joined}
 use Rattle.dml_tree.specs.Reading.{Reads}
@@ -11,9 +12,14 @@ use Rattle.dml_resolve.specs.declared.resolving.PathFault.{PathFault}
 use Rattle.dml_resolve.specs.declared.resolving.PathFault.TheVariants as path_fault
 use Rattle.dml_resolve.specs.Resolving.{resolved}
 use Rattle.net_graph.specs.declared.fault.ShapeFault.{ShapeFault}
+use Rattle.net_graph.specs.declared.rows.Network.{Network}
 use Rattle.net_graph.specs.Keys.{has_net}
+use Rattle.net_graph.specs.Reads.{Read, then_read}
+use Rattle.net_graph.specs.NetworkOf.{network_of}
+use Rattle.net_layout.specs.Faults.{first_fault}
 use Rattle.net_build.specs.declared.built.Built.{Built}
-use Rattle.net_build.specs.RingModel.{ring_plan_of}
+use Rattle.net_build.specs.RingModel.{ring_plan_of, ring_counts_of}
+use Rattle.net_build.specs.PlanText.{IsPlanText, ring_text_of}
 use Rattle.ring_model.specs.declared.ring.Ring.{Ring}
 use Rattle.ring_model.specs.declared.ring.RingState.{RingState}
 use Rattle.ring_model.specs.declared.ring.RingPayload.{RingPayload}
@@ -30,6 +36,7 @@ use Rattle.ssfnet_top.specs.declared.refusal.Refusal.{Refusal}
 use Rattle.ssfnet_top.specs.declared.refusal.Refusal.TheVariants as refusal
 use Rattle.ssfnet_top.specs.Refusals.{status_of, line_of}
 use Rattle.ssfnet_top.specs.Words.{Asked, asked_of_words}
+use Rattle.ssfnet_top.specs.Counts.{network_line, ring_line}
 
 -- what is due: the status, the bytes on `out`, and those on `err`
 pub record Due : Type 0 where
@@ -106,7 +113,7 @@ abbrev pub shaped : {A : Type 0} → Result A ShapeFault → Result A Refusal
 shaped (Ok model) = Ok model
 shaped (Err fault) = Err (refusal.Shape fault)
 
--- the model that a resolved tree describes; a Net has none yet
+-- the plan of a resolved tree that can be run; a Net has none yet
 abbrev pub model_in : Result Attributes Refusal → Result (Built Ring RingState RingPayload) Refusal
 model_in (Ok tree) = if has_net (attributes tree) then Err refusal.NotYet else shaped (ring_plan_of (attributes tree))
 model_in (Err r) = Err r
@@ -114,6 +121,43 @@ model_in (Err r) = Err r
 -- the model of the joined tree of files with these names
 abbrev pub model_of : List (List ℕ) → Attributes → Result (Built Ring RingState RingPayload) Refusal
 model_of names tree = model_in (resolved_of names tree)
+
+-- The counts of a model, and the text of its plan.
+
+-- a network without this fault
+abbrev pub unless : Option ShapeFault → Network → Read Network
+unless None network = Ok network
+unless (Some fault) network = Err fault
+
+-- the network of a resolved tree, or its first fault: in the tree, or one that keeps it from having a plan
+abbrev pub planned_network : List Attribute → Read Network
+planned_network root = then_read (network_of root) (λ network. unless (first_fault network) network)
+
+-- the line of counts of a resolved tree, whose model is a Net or not
+abbrev pub counts_in : Bool → List Attribute → Read (List ℕ)
+counts_in true root = then_read (planned_network root) (λ network. Ok (network_line network))
+counts_in false root = then_read (ring_counts_of root) (λ ring. Ok (ring_line ring))
+
+abbrev pub counts_of : Result Attributes Refusal → Result (List ℕ) Refusal
+counts_of (Ok tree) = shaped (counts_in (has_net (attributes tree)) (attributes tree))
+counts_of (Err r) = Err r
+
+abbrev pub IsText : Result (List ℕ) Refusal → Due → Type 0
+IsText (Ok text) due = due ≡ done text
+IsText (Err r) due = due ≡ refused r []
+
+abbrev pub IsNetworkPlan : Read Network → Due → Type 0
+IsNetworkPlan (Ok network) due = (text : List ℕ) × IsPlanText network text × (due ≡ done text)
+IsNetworkPlan (Err fault) due = due ≡ refused (refusal.Shape fault) []
+
+-- the text of the plan of a resolved tree, whose model is a Net or not
+abbrev pub IsPlanIn : Bool → List Attribute → Due → Type 0
+IsPlanIn true root due = IsNetworkPlan (planned_network root) due
+IsPlanIn false root due = IsText (shaped (ring_text_of root)) due
+
+abbrev pub IsPlan : Result Attributes Refusal → Due → Type 0
+IsPlan (Ok tree) due = IsPlanIn (has_net (attributes tree)) (attributes tree) due
+IsPlan (Err r) due = due ≡ refused r []
 
 -- The run. R is the cut: the writes of a round above it do not become pending.
 
@@ -152,6 +196,8 @@ IsPrinted (Err r) due = due ≡ refused r []
 abbrev pub IsCommandDue : Command → List (List ℕ) → Attributes → Due → Type 0
 IsCommandDue (commands.Dml false) names tree due = IsPrinted (Ok tree) due
 IsCommandDue (commands.Dml true) names tree due = IsPrinted (resolved_of names tree) due
+IsCommandDue commands.Check names tree due = IsText (counts_of (resolved_of names tree)) due
+IsCommandDue commands.Plan names tree due = IsPlan (resolved_of names tree) due
 IsCommandDue (commands.Seq until budget) names tree due = IsModelRun until budget (model_of names tree) due
 
 abbrev pub IsTreeDue : Asked → Result Attributes Refusal → Due → Type 0

@@ -99,10 +99,16 @@ seq_of options =
     (once (number_within 0 LatestUntil) (values_of (codes "--until") options))
     else None
 
+-- `check` and `plan` have no options
+abbrev pub bare_of : Command → List (List ℕ × List ℕ) → List (List ℕ) → Option Command
+bare_of command options flags = if nat_eq (length options) 0 && nat_eq (length flags) 0 then Some command else None
+
 -- the command of this name with these options
 abbrev pub command_of : List ℕ → List (List ℕ × List ℕ) → List (List ℕ) → Option Command
 command_of name options flags =
     if same_text name (codes "dml") then dml_of options flags
+    else if same_text name (codes "check") then bare_of commands.Check options flags
+    else if same_text name (codes "plan") then bare_of commands.Plan options flags
     else if same_text name (codes "seq") then (if nat_eq (length flags) 0 then seq_of options else None)
     else None
 
@@ -126,4 +132,6 @@ asked_of_words (name ∷ words) = option_and_then (asked_of name) (assigned None
 -- the numbers that a command is asked lie in their ranges
 abbrev pub IsInRange : Command → Type 0
 IsInRange (commands.Dml flat) = Unit {0}
+IsInRange commands.Check = Unit {0}
+IsInRange commands.Plan = Unit {0}
 IsInRange (commands.Seq until budget) = (until ≤ LatestUntil) × (1 ≤ budget) × (budget ≤ LargestBudget)

@@ -1,17 +1,21 @@
-//! The commands of the program: from words and files to the bytes written and the status.
+//! The commands of the program, `dml`, `check`, `plan` and `seq`: from words and files to the bytes
+//! written and the status.
 //!
 //! The whole meaning of a call is `IsOutcome` of `specs/Outcome.antt`: from words and the files that
 //! the library tells to the status and the bytes that are due; `specs/Ending.antt` says how a call
 //! ends, measured by that. They cite `specs/Words.antt` (what words ask), `specs/Numbers.antt`
-//! (numbers among them), `specs/FilePlaces.antt` (in which files attributes stand) and
-//! `specs/Refusals.antt` (statuses and the lines on `err`). `specs/Sending.antt` is of texts that are
-//! sent in pieces, and `specs/WordWalk.antt` of the walk over the words.
+//! (numbers among them), `specs/FilePlaces.antt` (in which files attributes stand), `specs/Counts.antt`
+//! (the lines of counts) and `specs/Refusals.antt` (statuses and the lines on `err`).
+//! `specs/Sending.antt` is of texts that are sent in pieces, and `specs/WordWalk.antt` of the walk over
+//! the words.
 #![tactic(auto)]
 
+mod checking;
 mod command;
 mod files;
 pub mod laws;
 mod number;
+mod planning;
 mod printing;
 mod refusal;
 mod resolving;
@@ -19,6 +23,7 @@ mod sending;
 mod seq;
 mod top;
 mod words;
+mod writing;
 
 pub use command::Command;
 pub use number::read_number;

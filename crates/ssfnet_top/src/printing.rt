@@ -6,9 +6,10 @@ ghost use Rattle.ssfnet_top.specs.FilePlaces.{ArePlaced};
 ghost use Rattle.ssfnet_top.specs.Ending.{Answers, IsOfCommand, IsOfModel};
 
 use crate::resolving::resolve_files;
+use crate::writing::write_text;
 use crate::{Command, Refusal};
 use dml_tree::{Tree, write};
-use sim_base::{Sink, write_all};
+use sim_base::Sink;
 use std::alloc::Global;
 
 /// Writes the canonical printing of a tree.
@@ -24,10 +25,7 @@ pub fn print_tree<K: Sink>(alloc: Global, tree: &Tree, out: &mut K) -> Result<()
         Ok(()) => {}
         Err(_memory) => return Err(Refusal::Memory),
     }
-    match write_all(out, text.as_slice()) {
-        Ok(()) => Ok(()),
-        Err(_failed) => Err(Refusal::Write),
-    }
+    write_text(text.as_slice(), out)
 }
 
 /// Writes the canonical printing of the resolved tree, given the joined tree of files with these

@@ -1,5 +1,5 @@
 //! What the program answers where it does not end well: the status, and the line on `err`.
-ghost use Rattle.std.specs.Prelude.{◌≡◌, ◌++◌, ◌∷◌, [], ℕ, length, map, codes, decimal, OnOk};
+ghost use Rattle.std.specs.Prelude.{◌≡◌, ◌⊎◌, ◌++◌, ◌∷◌, [], ℕ, length, map, codes, decimal, OnOk};
 ghost use Rattle.ssfnet_top.specs.Refusals.{printable, printable_byte, status_of, line_of, placed_text, path_fault_text, tree_fault_text, shape_fault_text};
 ghost use Rattle.nhi_address.specs.NhiText.{nhi_text};
 
@@ -81,6 +81,16 @@ impl Refusal {
             Refusal::Budget(budget) => push_count(out, b"budget list ", *budget)?,
         }
         push(out, b"\n")
+    }
+}
+
+/// The refusal of a model with this fault.
+pub fn shape_refusal(fault: ShapeFault) -> Refusal
+    ensures { ((fault ≡ ShapeFault.Memory) × (result ≡ Refusal.Memory)) ⊎ (¬ (fault ≡ ShapeFault.Memory) × (result ≡ Refusal.Shape fault)) }
+{
+    match fault {
+        ShapeFault::Memory => Refusal::Memory,
+        fault => Refusal::Shape(fault),
     }
 }
 

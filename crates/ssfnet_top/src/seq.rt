@@ -9,13 +9,14 @@ ghost use Rattle.ssfnet_top.specs.Outcome.{model_of, IsRunDue, IsModelRun};
 ghost use Rattle.ssfnet_top.specs.FilePlaces.{ArePlaced};
 ghost use Rattle.ssfnet_top.specs.Ending.{Answers, IsOfModel, IsOfCommand};
 
+use crate::refusal::shape_refusal;
 use crate::resolving::resolve_files;
 use crate::sending::{SendEnd, flush, send_entries};
 use crate::{Command, Refusal};
 use dml_tree::Tree;
 use global_list::{Single, SingleEnd, run_single};
 use net_build::{Built, ring_plan};
-use net_graph::{ShapeFault, is_net};
+use net_graph::is_net;
 use ring_model::Ring;
 use sim_base::Sink;
 use ssf_model::{Entry, Names};
@@ -70,8 +71,7 @@ fn build_ring(alloc: Global, names: &[String], tree: &Tree) -> Result<Built<Ring
     }
     match ring_plan(alloc, &resolved) {
         Ok(built) => Ok(built),
-        Err(ShapeFault::Memory) => Err(Refusal::Memory),
-        Err(fault) => Err(Refusal::Shape(fault)),
+        Err(fault) => Err(shape_refusal(fault)),
     }
 }
 

@@ -8,7 +8,9 @@ ghost use Rattle.ssfnet_top.specs.Outcome.{IsCommandDue, IsOutcome, refusal_line
 ghost use Rattle.ssfnet_top.specs.FilePlaces.{ArePlaced};
 ghost use Rattle.ssfnet_top.specs.Ending.{Ends, Concerns, Answers, IsReadFault, IsOfCommand, IsOfModel, IsTold, IsLineCut};
 
+use crate::checking::print_counts;
 use crate::files::read_files;
+use crate::planning::print_plan;
 use crate::printing::{print_resolved, print_tree};
 use crate::seq::run_model;
 use crate::words::{Request, WordsFault, read_words};
@@ -25,6 +27,9 @@ const WRITE_STATUS: u8 = 7;
 
 /// Answers a command: reads the files that the words name from the library, writes what is due on
 /// `out` and the line of a refusal on `err`, and answers the status with which the program ends.
+///
+/// The commands are `dml` (the printing of the files' tree), `check` (how many parts the model has),
+/// `plan` (the text of the model's plan) and `seq` (the trace of the model's run by one event list).
 ///
 /// The words are those after the program's name. The statuses are 0 where the whole output was
 /// written, 1 where there was no memory, 2 for words that are not those of a command, 3 for a file
@@ -102,6 +107,8 @@ fn act<K: Sink>(
     match command {
         Command::Dml { flat: false } => print_tree(alloc, tree, out),
         Command::Dml { flat: true } => print_resolved(alloc, names, tree, out),
+        Command::Check => print_counts(alloc, names, tree, out),
+        Command::Plan => print_plan(alloc, names, tree, out),
         Command::Seq { until, budget } => run_model(alloc, until, budget, names, tree, out),
     }
 }

@@ -1,7 +1,7 @@
 //! The words of a command: which are options, with and without values, which are files, and what
 //! they ask.
 ghost use Rattle.std.specs.Prelude.{◌≡◌, ◌≤◌, ◌∷◌, vec_len, ℕ, List, Bool, map, string_bytes, IfOk, IfSome, IfNone, OnOk, IsErrOf, None, Some};
-ghost use Rattle.ssfnet_top.specs.Words.{same_text, begins_with_dash, is_flag, is_plain_word, assigned, is_seq_option, values_of, once, at_most_once, dml_of, seq_of, command_of, asked_of, asked_of_words, IsInRange, MostFiles};
+ghost use Rattle.ssfnet_top.specs.Words.{same_text, begins_with_dash, is_flag, is_plain_word, assigned, is_seq_option, values_of, once, at_most_once, dml_of, bare_of, seq_of, command_of, asked_of, asked_of_words, IsInRange, MostFiles};
 ghost use Rattle.ssfnet_top.specs.WordWalk.{walked_on};
 ghost use Rattle.ssfnet_top.specs.GivenOption.{texts_of, IsGiven};
 ghost use Rattle.std.specs.List.{list_all};
@@ -256,6 +256,18 @@ fn dml_of(options: &[(String, String)], flags: &[String]) -> Option<Command>
     }
 }
 
+/// A command that has no options.
+fn bare_of(command: Command, options: &[(String, String)], flags: &[String]) -> Option<Command>
+    requires { IsInRange command }
+    ensures command { result ≡ bare_of command (map texts_of options.now) (map string_bytes flags.now) }
+    ensures range { IfSome result (λ c. IsInRange c) }
+{
+    if !options.is_empty() || !flags.is_empty() {
+        return None;
+    }
+    Some(command)
+}
+
 /// The command of this name with these options.
 fn command_of(name: &str, options: &[(String, String)], flags: &[String]) -> Option<Command>
     ensures command { result ≡ command_of name.now (map texts_of options.now) (map string_bytes flags.now) }
@@ -263,6 +275,12 @@ fn command_of(name: &str, options: &[(String, String)], flags: &[String]) -> Opt
 {
     if name == "dml" {
         return dml_of(options, flags);
+    }
+    if name == "check" {
+        return bare_of(Command::Check, options, flags);
+    }
+    if name == "plan" {
+        return bare_of(Command::Plan, options, flags);
     }
     if name == "seq" && flags.is_empty() {
         return seq_of(options);
