@@ -32,4 +32,6 @@ pub use top::offline;
 pub use words::{Request, WordsFault, read_words};
 
 #[cfg(test)]
+mod net_tests;
+#[cfg(test)]
 mod tests;

@@ -7,21 +7,21 @@ use std::test::Fail;
 
 /// One run of the command: the words, parted by blanks, the text of the file `m.dml`, and what is
 /// wanted of it.
-struct Case {
-    words: &'static str,
-    model: &'static str,
-    status: u8,
-    out: &'static str,
-    err: &'static str,
+pub(crate) struct Case {
+    pub(crate) words: &'static str,
+    pub(crate) model: &'static str,
+    pub(crate) status: u8,
+    pub(crate) out: &'static str,
+    pub(crate) err: &'static str,
 }
 
-const TWO: &str =
+pub(crate) const TWO: &str =
     "ring [ nodes 2 token 0 hop [ from 0 to 1 delay 5 ] hop [ from 1 to 0 delay 3 ] ]";
 
 const HELD: &str =
     "ring [ nodes 3 token 0 token 1 hop [ from 0 to 2 delay 4 ] hop [ from 1 to 2 delay 4 ] ]";
 
-const FIRST: &str =
+pub(crate) const FIRST: &str =
     "ring [ nodes 3 token 0 token 1 hop [ from 0 to 2 delay 4 priority 7 ] hop [ from 1 to 2 delay 4 ] ]";
 
 const BASE: &str =
@@ -31,7 +31,7 @@ const MORE: &str = "c[d\"\" _find .x]";
 
 const ENDLESS: &str = "ring [ nodes 1 token 0 hop [ from 0 to 0 delay 0 ] ]";
 
-fn split_words(alloc: Global, text: &str) -> Result<Vec<String>, Fail> {
+pub(crate) fn split_words(alloc: Global, text: &str) -> Result<Vec<String>, Fail> {
     let mut words = Vec::new(alloc);
     for word in text.split(' ') {
         if !word.is_empty() {
@@ -60,12 +60,12 @@ fn files_of(alloc: Global, model: &str) -> Result<Vec<(Text, Text)>, Fail> {
     Ok(files)
 }
 
-fn library_of(alloc: Global, model: &str) -> Result<MemoryLibrary, Fail> {
+pub(crate) fn library_of(alloc: Global, model: &str) -> Result<MemoryLibrary, Fail> {
     let files = files_of(alloc, model)?;
     Ok(MemoryLibrary::new(files, Vec::new(alloc)))
 }
 
-fn check_case(rt: &(impl Abort + AllocGlobal), case: &Case) -> Result<(), Fail> {
+pub(crate) fn check_case(rt: &(impl Abort + AllocGlobal), case: &Case) -> Result<(), Fail> {
     let alloc = rt.alloc();
     let words = split_words(alloc, case.words)?;
     let mut library = library_of(alloc, case.model)?;
@@ -718,6 +718,14 @@ fn failing_sinks_keep_a_part(rt: HostRuntime) -> Result<(), Fail> {
     for call in 0..13u64 {
         check_failing(&rt, "dml m.dml", printing, call)?;
     }
+    let counts = b"ring nodes 2 tokens 1 hops 2\n";
+    for call in 0..4u64 {
+        check_failing(&rt, "check m.dml", counts, call)?;
+    }
+    let plan = b"map 2 0 1 5\nmap 3 1 0 3\n";
+    for call in 0..3u64 {
+        check_failing(&rt, "plan m.dml", plan, call)?;
+    }
     Ok(())
 }
 
@@ -746,7 +754,12 @@ fn check_failing_library(
 /// Each file takes three calls: one to fetch it, one to read its bytes, and one to find its end.
 #[test]
 fn failing_libraries_name_the_file_at_hand(rt: HostRuntime) -> Result<(), Fail> {
-    for words in &["dml m.dml base.dml", "seq --until 10 m.dml base.dml"] {
+    for words in &[
+        "dml m.dml base.dml",
+        "check m.dml base.dml",
+        "plan m.dml base.dml",
+        "seq --until 10 m.dml base.dml",
+    ] {
         for call in 0..3u64 {
             check_failing_library(&rt, words, call, 3, b"read m.dml\n")?;
         }
@@ -805,7 +818,7 @@ fn unwritten_refusals_end_as_failed_writes(rt: HostRuntime) -> Result<(), Fail> 
 }
 
 /// Runs the command over the text of the file `m.dml`, and looks at what it writes.
-fn check_text(
+pub(crate) fn check_text(
     rt: &(impl Abort + AllocGlobal),
     words: &str,
     model: &str,
