@@ -14,8 +14,7 @@ use Rattle.ring_model.specs.declared.ring.RingPayload.{RingPayload}
 use Rattle.ring_model.specs.Reacting.{IsRing, AnyPayload, ring_reaction}
 use Rattle.ring_model.specs.RingLaws.{ring_sound, ring_modest}
 use Rattle.net_build.specs.declared.built.Built.{Built}
-use Rattle.net_build.specs.declared.ring.RingKeys.{RingKeys}
-use Rattle.net_build.specs.RingModel.{Read, then_read, ring_of, built_of, build, ring_plan_of, is_long}
+use Rattle.net_build.specs.RingModel.{RingKeys, Read, then_read, ring_of, built_of, build, ring_plan_of, is_long}
 use Rattle.global_list.specs.Entries.{run_entries}
 use Rattle.global_list.specs.Healthy.{IsRunnable}
 use Rattle.plan_opening.proofs.Named.{entries_named}
