@@ -8,8 +8,8 @@ ghost use Rattle.net_layout.specs.Faults.{first_fault, has_no_space};
 use crate::downs::periods;
 use crate::limits::{has_long_delay, has_many_channels, has_many_routes, has_many_transfers};
 use ip_blocks::{BlockFault, Blocks, LinkSize, NetParent, assign};
-use net_graph::{Network, ShapeFault};
-use sim_base::{ListOf, Memory, Text};
+use net_graph::{Network, ShapeFault, too_many};
+use sim_base::{ListOf, Memory};
 use std::alloc::Global;
 
 /// The blocks of a network's Nets and links, and the ticks at which its periods begin.
@@ -55,16 +55,6 @@ pub fn lay_out(alloc: Global, network: &Network) -> Result<Layout, ShapeFault>
         blocks,
         periods: ListOf::from_vec(periods),
     })
-}
-
-/// The fault `TooMany` of this kind, or `Memory`.
-fn too_many(alloc: Global, kind: &[u8]) -> ShapeFault
-    ensures { (result ≡ ShapeFault.Memory) ⊎ (result ≡ ShapeFault.TooMany kind.now) }
-{
-    match Text::of(alloc, kind) {
-        Ok(kind) => ShapeFault::TooMany(kind),
-        Err(_) => ShapeFault::Memory,
-    }
 }
 
 /// The blocks of a network's Nets and links.

@@ -11,7 +11,7 @@ ghost use Rattle.net_layout.specs.Faults.{has_many_transfers, has_many_routes, h
 use crate::wiring::{first_channel, is_client};
 use net_graph::{HostRow, Network, SessionKind, SessionRow};
 use sim_base::Memory;
-use ssf_model::LONGEST_DELAY;
+use ssf_model::{LONGEST_DELAY, MOST_CHANNELS};
 use std::alloc::Global;
 
 /// The most transfers that the client sessions of a host may have together.
@@ -19,9 +19,6 @@ const MOST_TRANSFERS: u64 = 50_000;
 
 /// The most routes of all hosts with an OSPF session in all periods.
 const MOST_ROUTES: u128 = 16_777_216;
-
-/// The most start, timer and mapping channels together.
-const MOST_CHANNELS: usize = 262_144;
 
 /// A link with more attachments than this has too many mappings alone.
 const MOST_ATTACHED: usize = 512;
