@@ -4,13 +4,13 @@ use Rattle.std.proofs.lemmas.List.{drop_more, take_more, take_all, drop_all, tak
 use Rattle.std.proofs.lemmas.Bool.{lt-ltb, le-ltb, eq-eqb, ne_eqb}
 use Rattle.net_layout.specs.Periods.{with_tick}
 
-before_head : (t : ℕ) (ts : List ℕ) (tick : ℕ) → tick < t → with_tick (t ∷ ts) tick ≡ tick ∷ t ∷ ts
+pub before_head : (t : ℕ) (ts : List ℕ) (tick : ℕ) → tick < t → with_tick (t ∷ ts) tick ≡ tick ∷ t ∷ ts
 before_head t ts tick h = rw (lt-ltb tick t h)
 
-at_head : (t : ℕ) (ts : List ℕ) (tick : ℕ) → tick ≡ t → with_tick (t ∷ ts) tick ≡ t ∷ ts
+pub at_head : (t : ℕ) (ts : List ℕ) (tick : ℕ) → tick ≡ t → with_tick (t ∷ ts) tick ≡ t ∷ ts
 at_head t ts tick h = let le : t ≤ tick = omega arith in rw (le-ltb tick t le, eq-eqb tick t h)
 
-behind_head : (t : ℕ) (ts : List ℕ) (tick : ℕ) → t < tick → with_tick (t ∷ ts) tick ≡ t ∷ with_tick ts tick
+pub behind_head : (t : ℕ) (ts : List ℕ) (tick : ℕ) → t < tick → with_tick (t ∷ ts) tick ≡ t ∷ with_tick ts tick
 behind_head t ts tick h = let le : t ≤ tick = omega arith in let ne : tick ≡ t → ⊥ = λ e. omega arith in rw (le-ltb tick t le, ne_eqb tick t ne)
 
 -- the list up to a place and the rest with the tick are the whole list with the tick

@@ -1,6 +1,7 @@
 -- The periods of a network: between the beginnings of two of them no link goes down or comes up.
-use Rattle.std.specs.Prelude.{ℕ, nat_le, nat_lt, ◌==◌, Bool, ◌&&◌, not, List, [], ◌∷◌, length, if◌then◌else◌}
+use Rattle.std.specs.Prelude.{ℕ, ◌≡◌, ◌<◌, ◌≤◌, ◌⊎◌, nat_le, nat_lt, ◌==◌, Bool, ◌&&◌, not, List, [], ◌∷◌, length, Contains, if◌then◌else◌}
 use Rattle.std.specs.List.{fold, list_any}
+use Rattle.std.specs.List.Sorted.{IsStrictlyIncreasing}
 use Rattle.net_graph.specs.declared.rows.Network.{Network}
 use Rattle.net_graph.specs.declared.rows.LinkRow.{LinkRow}
 use Rattle.net_graph.specs.declared.rows.Down.{Down}
@@ -31,3 +32,26 @@ is_down_at tick down = nat_le down.from tick && nat_lt tick down.to
 
 abbrev pub is_up : LinkRow → ℕ → Bool
 is_up link tick = not (list_any (is_down_at tick) link.downs)
+
+-- the down begins or ends at this tick
+abbrev pub BeginsOrEnds : Down → ℕ → Type 0
+BeginsOrEnds down tick = (tick ≡ down.from) ⊎ (tick ≡ down.to)
+
+-- some down of the link begins or ends at this tick
+abbrev pub ChangesAt : LinkRow → ℕ → Type 0
+ChangesAt link tick = (down : Down) × Contains link.downs down × BeginsOrEnds down tick
+
+-- some link of the network has a down that begins or ends at this tick
+abbrev pub IsChange : Network → ℕ → Type 0
+IsChange network tick = (link : LinkRow) × Contains network.links link × ChangesAt link tick
+
+-- the ticks at which the periods of a network begin: 0, each change and nothing else, each once, rising
+pub record ArePeriods (network : Network) (ticks : List ℕ) : Type 0 where
+  pub rising : IsStrictlyIncreasing ticks
+  pub zero : Contains ticks 0
+  pub changes : (tick : ℕ) → IsChange network tick → Contains ticks tick
+  pub nothing_else : (tick : ℕ) → Contains ticks tick → (tick ≡ 0) ⊎ IsChange network tick
+
+-- no period begins after the one tick and up to the other
+abbrev pub NoneBegins : Network → ℕ → ℕ → Type 0
+NoneBegins network after last = (begin : ℕ) → Contains (periods_of network) begin → after < begin → begin ≤ last → ⊥

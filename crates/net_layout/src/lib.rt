@@ -5,14 +5,18 @@
 //! Contracts cite the specs of `net_graph` on networks (what every network of a resolved tree meets),
 //! `specs/Periods.antt`, `specs/Addresses.antt`, `specs/Arms.antt` (the graph of a period),
 //! `specs/Gateways.antt` (default routes), `specs/Wiring.antt` (channels and mappings) and
-//! `specs/Faults.antt` (the first fault).
+//! `specs/Faults.antt` (the first fault). The laws of periods are the contracts of [`laws`]: where
+//! periods begin, and that no link goes down or comes up within one.
 #![tactic(auto)]
 
 mod arms;
 mod downs;
 mod gateways;
+pub mod laws;
 mod layout;
 mod limits;
+#[cfg(test)]
+mod tests;
 mod wiring;
 
 pub use arms::{address, attachment_of, first_interface, graph, place_of};
