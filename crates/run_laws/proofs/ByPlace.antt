@@ -1,5 +1,5 @@
 -- The writes of a run on one channel have its numbers in a row, whether the cut keeps them or not.
-use Rattle.std.proofs.Common.{ℕ, zero, suc, ◌≡◌, ◌⊎◌, ◌+◌, ◌<◌, ◌∙◌, sym, ap, subst, refl, inl, inr, Bool, true, false, nat_eq, List, [], ◌∷◌, ◌++◌, length, Option, Some, None, slice_get, arith, zero-add, suc-add, length-append}
+use Rattle.std.proofs.Common.{ℕ, zero, suc, ◌≡◌, ◌⊎◌, ◌+◌, ◌<◌, ◌≤◌, ◌∙◌, sym, ap, subst, refl, inl, inr, Bool, true, false, nat_eq, List, [], ◌∷◌, ◌++◌, length, Option, Some, None, slice_get, arith, zero-add, suc-add, length-append}
 use Rattle.std.specs.List.{filter, flat_map}
 use Rattle.std.proofs.lemmas.List.Elements.{filter-append}
 use Rattle.std.proofs.lemmas.Bool.Decides.{nat_tests}
@@ -246,3 +246,29 @@ module _ {B S P : Type 0} (r : Reaction S P) (plan : Plan B S P) (until : ℕ) (
             let held : IsWrite r plan until kept c k there.0 = subst (λ n. IsWrite r plan until kept c n there.0) (sym later.1) (is.events later.0 there.0 there.1) in
             inr (place_among parcel.events later.0 d (there.1 ∙ ap (λ z. Some z) (one_write c k there.0 d held write)))
       ]
+
+  pub parcel_tells : (appointed : Bool) (c : ℕ) (parcel : Parcel P) → IsTrueParcel r plan until kept appointed c parcel → (j : ℕ) (d : Event P) → slice_get parcel.events j ≡ Some d
+      → IsRunWrite r plan until kept d × (d.key.channel ≡ c) × (d.key.number ≡ counts_of plan.counts c + (parcel.first + j))
+  parcel_tells appointed c parcel is j d at = let w = is.events j d at in (is_written c (parcel.first + j) d w, write_channel c (parcel.first + j) d w, write_number c (parcel.first + j) d w)
+
+  pub parcel_told : (appointed : Bool) (c : ℕ) (parcel : Parcel P)
+      → ((j : ℕ) (d : Event P) → slice_get parcel.events j ≡ Some d → IsRunWrite r plan until kept d × (d.key.channel ≡ c) × (d.key.number ≡ counts_of plan.counts c + (parcel.first + j)))
+      → (appointed ≡ true → parcel.promise ≤ until + 1)
+      → (appointed ≡ true → (d : Event P) → IsRunWrite r plan until kept d → d.key.channel ≡ c → d.key.time < parcel.promise → d.key.number < counts_of plan.counts c + (parcel.first + length parcel.events))
+      → IsTrueParcel r plan until kept appointed c parcel
+  parcel_told appointed c parcel told least promise = record {
+    events = λ j d at.
+        let has = told j d at in
+        let found = has_write d has.0 in
+        let write : IsWrite r plan until kept c found.0 d = subst (λ x. IsWrite r plan until kept x found.0 d) has.1 found.1 in
+        let number = write_number c found.0 d write in
+        let given = has.2 in
+        let same : found.0 ≡ parcel.first + j = omega arith in
+        subst (λ k. IsWrite r plan until kept c k d) same write;
+    least = least;
+    promise = λ own. promise_told c parcel.promise (parcel.first + length parcel.events) (promise own);
+  }
+
+  pub parcel_promises : (c : ℕ) (parcel : Parcel P) → IsTrueParcel r plan until kept true c parcel
+      → (parcel.promise ≤ until + 1) × ((d : Event P) → IsRunWrite r plan until kept d → d.key.channel ≡ c → d.key.time < parcel.promise → d.key.number < counts_of plan.counts c + (parcel.first + length parcel.events))
+  parcel_promises c parcel is = (is.least refl, promise_tells c parcel.promise (parcel.first + length parcel.events) (is.promise refl))

@@ -192,3 +192,19 @@ pub fn true_parcels_are_whole<B: Behaviour>()
         → (d : Event B.Payload) → IsRunWrite (B.reaction b) plan until kept d → d.key.channel ≡ c → d.key.time < parcel.promise
         → (d.key.number < counts_of plan.counts c + parcel.first) ⊎ Among d parcel.events }
 {}
+
+/// A parcel is true exactly where its events are writes of the run on the channel, whose numbers are
+/// the opening's count and `first` together and those that follow (`events`), and, on an appointed
+/// channel, its promise is at most one past the end and each write of the run on the channel at a time
+/// below it has a number below that after its last event (`promise`). `told` is the converse of both.
+pub fn true_parcels_by_numbers<B: Behaviour>()
+    ensures events { (b : B) (plan : Plan B B.State B.Payload) (until : ℕ) (kept : KeyValue → Bool) (appointed : Bool) (c : ℕ) (parcel : Parcel B.Payload) → IsTrueParcel (B.reaction b) plan until kept appointed c parcel
+        → (j : ℕ) (d : Event B.Payload) → slice_get parcel.events j ≡ Some d → IsRunWrite (B.reaction b) plan until kept d × (d.key.channel ≡ c) × (d.key.number ≡ counts_of plan.counts c + (parcel.first + j)) }
+    ensures promise { (b : B) (plan : Plan B B.State B.Payload) (until : ℕ) (kept : KeyValue → Bool) (c : ℕ) (parcel : Parcel B.Payload) → IsTrueParcel (B.reaction b) plan until kept true c parcel
+        → (parcel.promise ≤ until + 1) × ((d : Event B.Payload) → IsRunWrite (B.reaction b) plan until kept d → d.key.channel ≡ c → d.key.time < parcel.promise → d.key.number < counts_of plan.counts c + (parcel.first + length parcel.events)) }
+    ensures told { (b : B) (plan : Plan B B.State B.Payload) (until : ℕ) (kept : KeyValue → Bool) (appointed : Bool) (c : ℕ) (parcel : Parcel B.Payload)
+        → ((j : ℕ) (d : Event B.Payload) → slice_get parcel.events j ≡ Some d → IsRunWrite (B.reaction b) plan until kept d × (d.key.channel ≡ c) × (d.key.number ≡ counts_of plan.counts c + (parcel.first + j)))
+        → (appointed ≡ true → parcel.promise ≤ until + 1)
+        → (appointed ≡ true → (d : Event B.Payload) → IsRunWrite (B.reaction b) plan until kept d → d.key.channel ≡ c → d.key.time < parcel.promise → d.key.number < counts_of plan.counts c + (parcel.first + length parcel.events))
+        → IsTrueParcel (B.reaction b) plan until kept appointed c parcel }
+{}

@@ -2,5 +2,6 @@ pub mod Drafted
 pub mod Delivering
 pub mod Worked
 mod TrueRows
+mod OpenRows
 pub mod Owning
 pub mod Fitted

@@ -71,6 +71,10 @@ timers_of entities = flat_map (λ e. flat_map (λ p. option_to_list p.timer) e.p
 abbrev pub HasAt : {T : Type 0} → List T → ℕ → (T → Type 0) → Type 0
 HasAt {T} xs i P = (x : T) × (slice_get xs i ≡ Some x) × P x
 
+-- `lists` gives the own channels of each element: no two elements have one of them both
+abbrev pub AreOwn : {T : Type 0} → (T → List ℕ) → List T → Type 0
+AreOwn {T} lists xs = (i j c : ℕ) (x y : T) → slice_get xs i ≡ Some x → slice_get xs j ≡ Some y → Among c (lists x) → Among c (lists y) → i ≡ j
+
 -- a mapping leads from an own out-channel of an entity to an own in-channel of another or the same
 pub record IsMappingOf {B S P : Type 0} (entities : List (Entity B S P)) (m : Mapping) : Type 0 where
   pub from : HasAt entities m.from (λ e. Among m.out_channel e.out_channels)
@@ -121,6 +125,8 @@ pub record IsPending {B S P : Type 0} (carried : P → Type 0) (plan : Plan B S 
 pub record Fits {B S P : Type 0} (valid : Validity S) (carried : P → Type 0) (plan : Plan B S P) : Type 0 where
   pub entities : Each (IsValidEntity valid) plan.entities
   pub processes : Each (λ e. Each (IsProcessOf e.in_channels) e.processes) plan.entities
+  pub ins : AreOwn (λ e. e.in_channels) plan.entities
+  pub outs : AreOwn (λ e. e.out_channels) plan.entities
   pub timers : timers_of plan.entities ≡ range_with_len (length plan.entities) (length (timers_of plan.entities))
   pub channels : map (λ m. m.channel) plan.mappings ≡ range_with_len (length plan.entities + length (timers_of plan.entities)) (length plan.mappings)
   pub mappings : Each (IsMappingOf plan.entities) plan.mappings

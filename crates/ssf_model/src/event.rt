@@ -81,7 +81,7 @@ impl Keyed for Entry {
 }
 
 /// Events of one channel in the order of their numbers, from the `first` after the opening on, and
-/// a promise: the channel's later events have times of at least `promise`.
+/// a promise: the channel's later writes have times of at least `promise`.
 #[derive(Drop)]
 pub struct Parcel<P> {
     pub first: u64,
