@@ -3,6 +3,6 @@ pub mod Attaching
 pub mod Firsts
 pub mod LinkRows
 pub mod Rows
-pub mod Saying
+pub mod Summaries
 pub mod Turns
 pub mod Worked

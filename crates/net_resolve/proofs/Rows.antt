@@ -24,17 +24,17 @@ use Rattle.net_graph.specs.ListKeys.{default_tcp}
 use Rattle.net_graph.specs.Reads.{Read, then_read}
 use Rattle.net_graph.specs.Steps.{is_server}
 use Rattle.net_graph.specs.NetworkOf.{Attachment, attachments, attachments_fault, full, gateway_row, host_at, host_rows, interface_at, client_at, server_at, server_rows, is_ospf, tcp_in, session_row, linked, link_rows, rows_with, rows_of}
-use Rattle.net_resolve.specs.declared.hosts.HostSays.{HostSays}
+use Rattle.net_resolve.specs.declared.hosts.HostSummary.{HostSummary}
 use Rattle.net_resolve.specs.Tables.{host_row}
 use Rattle.net_resolve.proofs.Turns.{later, onto, onto_cons, onto_end}
 
 -- hosts
 
-pub host_turn : (f : ℕ) (seen : Seen) (all : List Attachment) (whole : Read (List HostRow)) (before after : List HostRow) (now hs : List HostSeen) (h : HostSeen) (g : Option Gateway) (says : HostSays) (row : HostRow) →
+pub host_turn : (f : ℕ) (seen : Seen) (all : List Attachment) (whole : Read (List HostRow)) (before after : List HostRow) (now hs : List HostSeen) (h : HostSeen) (g : Option Gateway) (summary : HostSummary) (row : HostRow) →
     whole ≡ onto before (host_rows f seen all (length before) now) → now ≡ h ∷ hs → gateway_row seen all h h.gateway ≡ Ok g →
-    says.ospf ≡ list_any (is_ospf (length before)) seen.sessions → unwrap_or says.tcp (default_tcp f) ≡ tcp_in f (length before) seen.sessions → row ≡ host_row f h g says → after ≡ before ++ row ∷ [] →
+    summary.ospf ≡ list_any (is_ospf (length before)) seen.sessions → unwrap_or summary.tcp (default_tcp f) ≡ tcp_in f (length before) seen.sessions → row ≡ host_row f h g summary → after ≡ before ++ row ∷ [] →
     whole ≡ onto after (host_rows f seen all (length after) hs)
-host_turn f seen all whole before after now hs h g says row e is gate ospf tcp made pushed =
+host_turn f seen all whole before after now hs h g summary row e is gate ospf tcp made pushed =
     let n = length before in
     let rest = host_rows f seen all (n + 1) hs in
     let longer : length after ≡ n + 1 = ap (λ (rs : List HostRow). length rs) pushed ∙ length-append before (row ∷ []) in

@@ -17,7 +17,7 @@ use Rattle.net_graph.specs.declared.seen.Seen.{Seen}
 use Rattle.net_graph.specs.ListKeys.{default_tcp}
 use Rattle.net_graph.specs.Reads.{Read, then_read}
 use Rattle.net_graph.specs.NetworkOf.{Attachment, attachments_of, first_interface, interface_at, link_at}
-use Rattle.net_resolve.specs.declared.hosts.HostSays.{HostSays}
+use Rattle.net_resolve.specs.declared.hosts.HostSummary.{HostSummary}
 
 -- the first interface of each host
 
@@ -97,22 +97,22 @@ placed_rows places number (row ∷ rows) = record row { link = slice_index_or pl
 
 -- what the sessions of each host say of it
 
-abbrev pub silent : HostSays
+abbrev pub silent : HostSummary
 silent = record { ospf = false; tcp = None }
 
-abbrev pub said : SessionKeys → HostSays → HostSays
-said keys.Ospf says = record { ospf = true; tcp = says.tcp }
-said (keys.Tcp settings) says = record { ospf = says.ospf; tcp = Some (unwrap_or says.tcp settings) }
-said _ says = says
+abbrev pub with_session : SessionKeys → HostSummary → HostSummary
+with_session keys.Ospf summary = record { ospf = true; tcp = summary.tcp }
+with_session (keys.Tcp settings) summary = record { ospf = summary.ospf; tcp = Some (unwrap_or summary.tcp settings) }
+with_session _ summary = summary
 
--- the row of a host with this default route, of which this is said
-abbrev pub host_row : ℕ → HostSeen → Option Gateway → HostSays → HostRow
-host_row frequency h gateway says =
-    record { net = h.net; id = h.id; router = h.router; ospf = says.ospf; gateway = gateway; tcp = unwrap_or says.tcp (default_tcp frequency) }
+-- the row of a host with this default route, and this summary
+abbrev pub host_row : ℕ → HostSeen → Option Gateway → HostSummary → HostRow
+host_row frequency h gateway summary =
+    record { net = h.net; id = h.id; router = h.router; ospf = summary.ospf; gateway = gateway; tcp = unwrap_or summary.tcp (default_tcp frequency) }
 
-abbrev pub told_one : List HostSays → SessionSeen → List HostSays
-told_one says s = slice_set says s.host (said s.keys (slice_index_or says s.host silent))
+abbrev pub told_one : List HostSummary → SessionSeen → List HostSummary
+told_one summaries s = slice_set summaries s.host (with_session s.keys (slice_index_or summaries s.host silent))
 
-unfoldable pub told : List HostSays → List SessionSeen → List HostSays
-told says [] = says
-told says (s ∷ ss) = told (told_one says s) ss
+unfoldable pub told : List HostSummary → List SessionSeen → List HostSummary
+told summaries [] = summaries
+told summaries (s ∷ ss) = told (told_one summaries s) ss

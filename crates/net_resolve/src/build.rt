@@ -7,7 +7,7 @@ ghost use Rattle.net_graph.specs.Steps.{IsFew};
 ghost use Rattle.net_resolve.specs.Tables.{IsTable, link_rows_from};
 
 use crate::found::Found;
-use crate::hosts::{host_rows, hosts_say, session_rows};
+use crate::hosts::{host_rows, session_rows, summaries_of};
 use crate::links::{attach_all, interface_rows, no_places};
 use crate::servers::server_rows;
 use dml_tree::Tree;
@@ -71,8 +71,8 @@ fn rows_with(
     ensures cause { IfErr result (λ fault. (fault ≡ ShapeFault.Memory) ⊎ (rows_with frequency found (attachments found) None ≡ Err fault)) }
 {
     let seen = found.seen();
-    let says = hosts_say(alloc, seen.hosts.len(), seen.sessions.as_slice())?;
-    let hosts = host_rows(alloc, &found, places, says.as_slice(), frequency)?;
+    let summaries = summaries_of(alloc, seen.hosts.len(), seen.sessions.as_slice())?;
+    let hosts = host_rows(alloc, &found, places, summaries.as_slice(), frequency)?;
     let servers = server_rows(alloc, &found, places)?;
     let interfaces = interface_rows(alloc, places, seen.interfaces.as_slice())?;
     let sessions = session_rows(alloc, seen.sessions.as_slice())?;

@@ -3,7 +3,7 @@ ghost use Rattle.std.specs.Prelude.{◌≡◌, ◌+◌, ◌≤◌, ◌⊎◌, So
 ghost use Rattle.nhi_address.specs.NhiFields.{IsId};
 ghost use Rattle.net_graph.specs.NetworkOf.{attachments, interface_at, full, own_address, same_link, gateway_next, gateway_on, gateway_row, host_rows, kind_of, session_row};
 ghost use Rattle.net_graph.specs.Steps.{HasIds};
-ghost use Rattle.net_resolve.specs.Tables.{IsTable, host_row, silent, said, told_one, told};
+ghost use Rattle.net_resolve.specs.Tables.{IsTable, host_row, silent, with_session, told_one, told};
 
 use crate::found::Found;
 use crate::links::place_of;
@@ -15,67 +15,67 @@ use nhi_address::Nhi;
 use sim_base::TcpConfig;
 use std::alloc::Global;
 
-/// What the sessions of a host say of it: whether one is OSPF, and the settings of the first with TCP.
+/// A summary of the sessions of a host: whether one is OSPF, and the settings of the first with TCP.
 #[derive(Clone, Copy, Debug, PartialEq, Eq)]
-pub struct HostSays {
+pub struct HostSummary {
     pub ospf: bool,
     pub tcp: Option<TcpConfig>,
 }
 
-/// What is said of a host once a session of it was met.
-fn said(keys: SessionKeys, says: HostSays) -> HostSays
-    ensures { result ≡ said keys says }
+/// The summary of a host once one more session of it was met.
+fn with_session(keys: SessionKeys, summary: HostSummary) -> HostSummary
+    ensures { result ≡ with_session keys summary }
 {
     match keys {
-        SessionKeys::Ospf => HostSays {
+        SessionKeys::Ospf => HostSummary {
             ospf: true,
-            tcp: says.tcp,
+            tcp: summary.tcp,
         },
-        SessionKeys::Tcp(settings) => HostSays {
-            ospf: says.ospf,
-            tcp: Some(says.tcp.unwrap_or(settings)),
+        SessionKeys::Tcp(settings) => HostSummary {
+            ospf: summary.ospf,
+            tcp: Some(summary.tcp.unwrap_or(settings)),
         },
-        _ => says,
+        _ => summary,
     }
 }
 
-/// Puts what a session says into the table.
-fn tell(says: &mut [HostSays], session: SessionSeen)
-    ensures { says.new ≡ told_one says.old session }
+/// Notes a session in the table.
+fn note_session(summaries: &mut [HostSummary], session: SessionSeen)
+    ensures { summaries.new ≡ told_one summaries.old session }
 {
     let host = session.host as usize;
-    if host < says.len() {
-        says[host] = said(session.keys, says[host]);
+    if host < summaries.len() {
+        summaries[host] = with_session(session.keys, summaries[host]);
     }
 }
 
 /// A table of that many hosts without sessions.
-fn no_says(alloc: Global, hosts: usize) -> Result<Vec<HostSays>, ShapeFault>
-    ensures silent { IfOk result (λ says. says.items ≡ replicate hosts silent) }
+fn no_summaries(alloc: Global, hosts: usize) -> Result<Vec<HostSummary>, ShapeFault>
+    ensures silent { IfOk result (λ summaries. summaries.items ≡ replicate hosts silent) }
     ensures cause { IfErr result (λ fault. fault ≡ ShapeFault.Memory) }
 {
-    let silent = HostSays {
+    let silent = HostSummary {
         ospf: false,
         tcp: None,
     };
-    let says = vec![in alloc; silent; hosts]?;
-    Ok(says)
+    let summaries = vec![in alloc; silent; hosts]?;
+    Ok(summaries)
 }
 
-/// What the sessions say of each of so many hosts.
-pub fn hosts_say(
+/// The summary of each of so many hosts.
+pub fn summaries_of(
     alloc: Global,
     hosts: usize,
     sessions: &[SessionSeen],
-) -> Result<Vec<HostSays>, ShapeFault>
-    ensures told { IfOk result (λ says. says.items ≡ told (replicate hosts silent) sessions.now) }
+) -> Result<Vec<HostSummary>, ShapeFault>
+    ensures told { IfOk result (λ summaries. summaries.items ≡ told (replicate hosts silent) sessions.now) }
     ensures cause { IfErr result (λ fault. fault ≡ ShapeFault.Memory) }
 {
-    let mut says = no_says(alloc, hosts)?;
+    let mut summaries = no_summaries(alloc, hosts)?;
     for session in sessions {
-        tell(says.as_mut_slice(), *session);
+        note_session(summaries.as_mut_slice(), *session);
     }
-    Ok(says)
+    Ok(summaries)
 }
 
 /// Whether two places are on the same link.
@@ -174,13 +174,13 @@ fn gateway_row(
     }
 }
 
-/// What is said of a host.
-fn says_of(says: &[HostSays], host: usize) -> HostSays
-    ensures { result ≡ slice_index_or says.now host silent }
+/// The summary of a host; past the end of the table that of one without sessions.
+fn summary_of(summaries: &[HostSummary], host: usize) -> HostSummary
+    ensures { result ≡ slice_index_or summaries.now host silent }
 {
-    match says.get(host) {
-        Some(says) => *says,
-        None => HostSays {
+    match summaries.get(host) {
+        Some(summary) => *summary,
+        None => HostSummary {
             ospf: false,
             tcp: None,
         },
@@ -188,17 +188,22 @@ fn says_of(says: &[HostSays], host: usize) -> HostSays
 }
 
 /// The row of a host.
-fn row_of(host: &HostSeen, gateway: Option<Gateway>, says: HostSays, frequency: u64) -> HostRow
+fn row_of(
+    host: &HostSeen,
+    gateway: Option<Gateway>,
+    summary: HostSummary,
+    frequency: u64,
+) -> HostRow
     requires { frequency ≤ 1000000000000 }
-    ensures { result ≡ host_row frequency host.now gateway says }
+    ensures { result ≡ host_row frequency host.now gateway summary }
 {
     HostRow {
         net: host.net,
         id: host.id,
         router: host.router,
-        ospf: says.ospf,
+        ospf: summary.ospf,
         gateway,
-        tcp: says.tcp.unwrap_or(default_settings(frequency)),
+        tcp: summary.tcp.unwrap_or(default_settings(frequency)),
     }
 }
 
@@ -207,20 +212,20 @@ pub fn host_rows(
     alloc: Global,
     found: &Found,
     places: &[Option<(u32, u32)>],
-    says: &[HostSays],
+    summaries: &[HostSummary],
     frequency: u64,
 ) -> Result<Vec<HostRow>, ShapeFault>
     requires frequency { frequency ≤ 1000000000000 }
     requires table { IsTable (attachments found.now) places.now }
-    requires says { says.now ≡ told (replicate (length found.now.hosts) silent) found.now.sessions }
+    requires summaries { summaries.now ≡ told (replicate (length found.now.hosts) silent) found.now.sessions }
     ensures rows { IfOk result (λ rows. host_rows frequency found.now (attachments found.now) 0 found.now.hosts ≡ Ok rows.items) }
     ensures cause { IfErr result (λ fault. (fault ≡ ShapeFault.Memory) ⊎ (host_rows frequency found.now (attachments found.now) 0 found.now.hosts ≡ Err fault)) }
 {
     let mut rows = Vec::new(alloc);
     for host in found.seen().hosts.as_slice() {
-        let says = says_of(says, rows.len());
+        let summary = summary_of(summaries, rows.len());
         let gateway = gateway_row(alloc, found, places, host)?;
-        rows.push(row_of(host, gateway, says, frequency))?;
+        rows.push(row_of(host, gateway, summary, frequency))?;
     }
     Ok(rows)
 }
