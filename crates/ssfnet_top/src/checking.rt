@@ -9,7 +9,6 @@ ghost use Rattle.ssfnet_top.specs.Outcome.{resolved_of, counts_in, counts_of, Is
 ghost use Rattle.ssfnet_top.specs.FilePlaces.{ArePlaced};
 ghost use Rattle.ssfnet_top.specs.Ending.{Answers, IsOfCommand, IsOfModel};
 
-use crate::refusal::shape_refusal;
 use crate::resolving::resolve_files;
 use crate::writing::write_text;
 use crate::{Command, Refusal};
@@ -52,14 +51,9 @@ fn counts_line(alloc: Global, names: &[String], tree: &Tree) -> Result<Vec<u8>, 
     ensures refusal { IfErr result (λ r. IsOfModel (map string_bytes names.now) r) }
     ensures command { IfErr result (λ r. IsOfCommand Command.Check (map string_bytes names.now) r) }
 {
-    let resolved = match resolve_files(alloc, names, tree) {
-        Ok(resolved) => resolved,
-        Err(refusal) => return Err(refusal),
-    };
-    match model_line(alloc, &resolved) {
-        Ok(line) => Ok(line),
-        Err(fault) => Err(shape_refusal(fault)),
-    }
+    let resolved = resolve_files(alloc, names, tree)?;
+    let line = model_line(alloc, &resolved)?;
+    Ok(line)
 }
 
 /// The line of counts of the model of a resolved tree.

@@ -8,7 +8,6 @@ ghost use Rattle.ssfnet_top.specs.Outcome.{done, refused, resolved_of, IsPlan, I
 ghost use Rattle.ssfnet_top.specs.FilePlaces.{ArePlaced};
 ghost use Rattle.ssfnet_top.specs.Ending.{Answers, IsOfCommand, IsOfModel};
 
-use crate::refusal::shape_refusal;
 use crate::resolving::resolve_files;
 use crate::writing::write_text;
 use crate::{Command, Refusal};
@@ -50,14 +49,9 @@ fn files_plan(alloc: Global, names: &[String], tree: &Tree) -> Result<Vec<u8>, R
     ensures refusal { IfErr result (λ r. IsOfModel (map string_bytes names.now) r) }
     ensures command { IfErr result (λ r. IsOfCommand Command.Plan (map string_bytes names.now) r) }
 {
-    let resolved = match resolve_files(alloc, names, tree) {
-        Ok(resolved) => resolved,
-        Err(refusal) => return Err(refusal),
-    };
-    match model_plan(alloc, &resolved) {
-        Ok(text) => Ok(text),
-        Err(fault) => Err(shape_refusal(fault)),
-    }
+    let resolved = resolve_files(alloc, names, tree)?;
+    let text = model_plan(alloc, &resolved)?;
+    Ok(text)
 }
 
 /// The text of the plan of the model of a resolved tree.

@@ -1,5 +1,5 @@
 //! What the program answers where it does not end well: the status, and the line on `err`.
-ghost use Rattle.std.specs.Prelude.{◌≡◌, ◌⊎◌, ◌++◌, ◌∷◌, [], ℕ, length, map, codes, decimal, OnOk};
+ghost use Rattle.std.specs.Prelude.{◌≡◌, ◌++◌, ◌∷◌, [], ℕ, length, map, codes, decimal, OnOk};
 ghost use Rattle.ssfnet_top.specs.Refusals.{printable, printable_byte, status_of, line_of, placed_text, path_fault_text, tree_fault_text, shape_fault_text};
 ghost use Rattle.nhi_address.specs.NhiText.{nhi_text};
 
@@ -44,6 +44,22 @@ impl From<Memory> for Refusal {
     }
 }
 
+/// The refusal of a model with this fault; want of memory is no fault of the model.
+impl From<ShapeFault> for Refusal {
+    ghost use Rattle.std.specs.Prelude.{◌≡◌, ◌⊎◌};
+    ghost use Rattle.net_graph.specs.declared.fault.ShapeFault.TheVariants as shape_fault;
+    ghost use Rattle.ssfnet_top.specs.declared.refusal.Refusal.TheVariants as refusal;
+
+    ghost from_gives = { λ fault r. ((fault ≡ shape_fault.Memory) × (r ≡ refusal.Memory)) ⊎ (¬ (fault ≡ shape_fault.Memory) × (r ≡ refusal.Shape fault)) };
+
+    fn from(fault: ShapeFault) -> Refusal {
+        match fault {
+            ShapeFault::Memory => Refusal::Memory,
+            fault => Refusal::Shape(fault),
+        }
+    }
+}
+
 impl Refusal {
     /// The status with which the program ends.
     pub fn status(&self) -> u8
@@ -81,16 +97,6 @@ impl Refusal {
             Refusal::Budget(budget) => push_count(out, b"budget list ", *budget)?,
         }
         push(out, b"\n")
-    }
-}
-
-/// The refusal of a model with this fault.
-pub fn shape_refusal(fault: ShapeFault) -> Refusal
-    ensures { ((fault ≡ ShapeFault.Memory) × (result ≡ Refusal.Memory)) ⊎ (¬ (fault ≡ ShapeFault.Memory) × (result ≡ Refusal.Shape fault)) }
-{
-    match fault {
-        ShapeFault::Memory => Refusal::Memory,
-        fault => Refusal::Shape(fault),
     }
 }
 

@@ -9,7 +9,6 @@ ghost use Rattle.ssfnet_top.specs.Outcome.{model_of, IsRunDue, IsModelRun};
 ghost use Rattle.ssfnet_top.specs.FilePlaces.{ArePlaced};
 ghost use Rattle.ssfnet_top.specs.Ending.{Answers, IsOfModel, IsOfCommand};
 
-use crate::refusal::shape_refusal;
 use crate::resolving::resolve_files;
 use crate::sending::{SendEnd, flush, send_entries};
 use crate::{Command, Refusal};
@@ -62,17 +61,12 @@ fn build_ring(alloc: Global, names: &[String], tree: &Tree) -> Result<Built<Ring
     ensures named { IfOk result (λ built. length built.names.names ≡ length built.plan.entities) }
     ensures before { IfOk result (λ built. built.plan.before ≡ 0) }
 {
-    let resolved = match resolve_files(alloc, names, tree) {
-        Ok(resolved) => resolved,
-        Err(refusal) => return Err(refusal),
-    };
+    let resolved = resolve_files(alloc, names, tree)?;
     if is_net(&resolved) {
         return Err(Refusal::NotYet);
     }
-    match ring_plan(alloc, &resolved) {
-        Ok(built) => Ok(built),
-        Err(fault) => Err(shape_refusal(fault)),
-    }
+    let built = ring_plan(alloc, &resolved)?;
+    Ok(built)
 }
 
 /// Runs a plan by one event list up to `until`, in ticks, and at most `budget` events, and writes

@@ -4,7 +4,7 @@ use Rattle.ssfnet_top.proofs.Weights.{few_tokens}
 use Rattle.ssfnet_top.proofs.seq.build_ring.Goals as goal
 
 pub ring_plan-requires-clause-few : goal.ring_plan-requires-clause-few
-ring_plan-requires-clause-few c = few_tokens c.in-Ok.resolved c.in-Ok.ensures.small
+ring_plan-requires-clause-few c = few_tokens _ c.in_ok-resolved.ensures.small
 
-pub returns-in-Ok-ring_plan-clause-before : goal.returns-in-Ok-ring_plan-clause-before
-returns-in-Ok-ring_plan-clause-before c = plan_before (attributes c.in-Ok.resolved) c.in-Ok-ring_plan.built c.in-Ok-ring_plan.ensures.built
+pub returns-clause-before : goal.returns-clause-before
+returns-clause-before c = plan_before (attributes c.in_ok-resolved.resolved) c.in_ok-built.built c.in_ok-built.ensures.built
