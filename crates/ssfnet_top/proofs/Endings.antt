@@ -1,13 +1,13 @@
 -- From the answer of a command to how its call ends.
-use Rattle.std.proofs.Common.{ℕ, ◌≡◌, ◌∙◌, sym, ap, subst, refl, List, [], ◌∷◌, ◌++◌, append-nil, length, take, codes, arith, IfSome, inl, inr, ◌⊎◌, Option, Some, None, IfErr, OnOk, OnErr, Result, Ok, Err}
+use Rattle.std.proofs.Common.{ℕ, ◌≡◌, ◌∙◌, sym, ap, subst, refl, List, [], ◌∷◌, ◌++◌, append-nil, length, take, codes, arith, IfSome, inl, inr, ◌⊎◌, Option, Some, None, IfOk, IfErr, OnOk, OnErr, Result, Ok, Err, Vec, Global}
 use Rattle.dml_tree.specs.Attributes.{Attributes}
 use Rattle.sim_base.specs.Outside.{Files, Rose, Appends, AppendsPrefix}
 use Rattle.ssfnet_top.specs.declared.refusal.Refusal.{Refusal}
 use Rattle.ssfnet_top.specs.declared.refusal.Refusal.TheVariants as refusal
 use Rattle.ssfnet_top.specs.Refusals.{status_of, line_of}
 use Rattle.ssfnet_top.specs.Words.{Asked, asked_of_words}
-use Rattle.ssfnet_top.specs.Outcome.{Due, done, refused, refusal_line, AreRead, IsTreeDue, IsAskedDue, IsOutcome}
-use Rattle.ssfnet_top.specs.Ending.{Outside, IsStopped, IsReached, IsFileReached, Ends, IsHalt, Answers, IsReadFault, IsTold, IsLineCut, Concerns}
+use Rattle.ssfnet_top.specs.Outcome.{Due, done, refused, refusal_line, AreRead, IsText, IsTreeDue, IsAskedDue, IsOutcome}
+use Rattle.ssfnet_top.specs.Ending.{Outside, IsStopped, IsReached, IsFileReached, Ends, due_of, IsHalt, Answers, IsReadFault, IsTold, IsLineCut, Concerns}
 use Rattle.std.proofs.lemmas.Grind.{common_steps}
 
 -- nothing is written
@@ -113,13 +113,32 @@ pub sent_all : (IsDue : Due → Type 0) (answer : Result (Unit {0}) Refusal) (te
 sent_all IsDue (Ok unit) text faults faults' held held' is all part cause = inl (text, is, all)
 sent_all IsDue (Err r) text faults faults' held held' is all part cause = sent_part IsDue (done text) r faults faults' held held' is cause part
 
--- a text that was made was written by one call, wholly or in part
-pub sent_once : (IsDue : Due → Type 0) (answer : Result (Unit {0}) Refusal) (text sent : List ℕ) (faults faults' : ℕ) (held held' : Option (List ℕ)) → IsDue (done text) → sent ≡ text
-    → OnOk answer (Appends sent held held') → OnErr answer (AppendsPrefix sent held held')
-    → IfErr answer (λ r. (r ≡ refusal.Write) × Rose faults faults') → Answers IsDue answer faults faults' held held'
-sent_once IsDue (Ok unit) text sent faults faults' held held' is same all part cause = inl (text, is, subst (λ (t : List ℕ). Appends t held held') same all)
-sent_once IsDue (Err r) text sent faults faults' held held' is same all part cause =
-    sent_part IsDue (done text) r faults faults' held held' is (inr cause) (subst (λ (t : List ℕ). AppendsPrefix t held held') same part)
+-- the text of an answer was written, wholly or in part; or the answer was refused
+pub sent_answer : (IsDue : Due → Type 0) (made : Result (Vec ℕ Global) Refusal) (answer : Result (Unit {0}) Refusal) (faults faults' : ℕ) (held held' : Option (List ℕ))
+    → IfOk made (λ text. IsDue (done text.items)) → IfErr made (λ r. (r ≡ refusal.Memory) ⊎ IsDue (refused r []))
+    → IfOk made (λ text. OnOk answer (Appends text.items held held')) → IfOk made (λ text. OnErr answer (AppendsPrefix text.items held held'))
+    → IfOk made (λ text. IfErr answer (λ r. (r ≡ refusal.Write) × Rose faults faults')) → IfErr made (λ r. (answer ≡ Err r) × Appends [] held held')
+    → Answers IsDue answer faults faults' held held'
+sent_answer IsDue (Ok text) (Ok unit) faults faults' held held' is cause all part failed nothing = inl (text.items, is, all)
+sent_answer IsDue (Ok text) (Err r) faults faults' held held' is cause all part failed nothing =
+    sent_part IsDue (done text.items) r faults faults' held held' is (inr failed) part
+sent_answer IsDue (Err r) answer faults faults' held held' is (inl m) all part failed nothing =
+    inr (inr (nothing.0 ∙ ap (λ (s : Refusal). Err s) m, nothing.1))
+sent_answer IsDue (Err r) answer faults faults' held held' is (inr due) all part failed nothing =
+    inl ([], subst (λ (a : Result (Unit {0}) Refusal). IsDue (due_of a [])) (sym nothing.0) due, nothing.1)
+
+-- the same where one text or one refusal is due
+pub sent_text : (due : Result (List ℕ) Refusal) (made : Result (Vec ℕ Global) Refusal) (answer : Result (Unit {0}) Refusal) (faults faults' : ℕ) (held held' : Option (List ℕ))
+    → IfOk made (λ text. due ≡ Ok text.items) → IfErr made (λ r. (r ≡ refusal.Memory) ⊎ (due ≡ Err r))
+    → IfOk made (λ text. OnOk answer (Appends text.items held held')) → IfOk made (λ text. OnErr answer (AppendsPrefix text.items held held'))
+    → IfOk made (λ text. IfErr answer (λ r. (r ≡ refusal.Write) × Rose faults faults')) → IfErr made (λ r. (answer ≡ Err r) × Appends [] held held')
+    → Answers (IsText due) answer faults faults' held held'
+sent_text due (Ok text) answer faults faults' held held' is cause all part failed nothing =
+    sent_answer (IsText due) (Ok text) answer faults faults' held held' (subst (λ (d : Result (List ℕ) Refusal). IsText d (done text.items)) (sym is) refl) tt all part failed nothing
+sent_text due (Err r) answer faults faults' held held' is (inl m) all part failed nothing =
+    sent_answer (IsText due) (Err r) answer faults faults' held held' tt (inl m) all part failed nothing
+sent_text due (Err r) answer faults faults' held held' is (inr e) all part failed nothing =
+    sent_answer (IsText due) (Err r) answer faults faults' held held' tt (inr (subst (λ (d : Result (List ℕ) Refusal). IsText d (refused r [])) (sym e) refl)) all part failed nothing
 
 of_file : (files : Files) (asked : Asked) (o : Option Asked) (names : List (List ℕ)) (file : List ℕ) → o ≡ Some asked → names ≡ asked.files → IsReached files 0 names file
     → IsFileReached files o file

@@ -10,7 +10,7 @@ ghost use Rattle.ssfnet_top.specs.FilePlaces.{ArePlaced};
 ghost use Rattle.ssfnet_top.specs.Ending.{Answers, IsOfCommand, IsOfModel};
 
 use crate::resolving::resolve_files;
-use crate::writing::write_text;
+use crate::writing::write_answer;
 use crate::{Command, Refusal};
 use dml_tree::Tree;
 use net_build::{RingCounts, ring_counts};
@@ -37,10 +37,7 @@ pub fn print_counts<K: Sink>(
     ensures write { IfErr result (λ r. r ≡ Refusal.Write → Rose (K.faults out.old) (K.faults out.new)) }
     ensures nothing { IfErr result (λ r. IsOfModel (map string_bytes names.now) r → ¬ (r ≡ Refusal.Memory) → Appends [] (K.held out.old) (K.held out.new)) }
 {
-    match counts_line(alloc, names, tree) {
-        Ok(line) => write_text(line.as_slice(), out),
-        Err(refusal) => Err(refusal),
-    }
+    write_answer(counts_line(alloc, names, tree), out)
 }
 
 /// The line of counts of the model of the joined tree of files with these names.

@@ -9,7 +9,7 @@ ghost use Rattle.ssfnet_top.specs.FilePlaces.{ArePlaced};
 ghost use Rattle.ssfnet_top.specs.Ending.{Answers, IsOfCommand, IsOfModel};
 
 use crate::resolving::resolve_files;
-use crate::writing::write_text;
+use crate::writing::write_answer;
 use crate::{Command, Refusal};
 use dml_tree::Tree;
 use net_build::{plan_text, ring_text};
@@ -35,10 +35,7 @@ pub fn print_plan<K: Sink>(
     ensures write { IfErr result (λ r. r ≡ Refusal.Write → Rose (K.faults out.old) (K.faults out.new)) }
     ensures nothing { IfErr result (λ r. IsOfModel (map string_bytes names.now) r → ¬ (r ≡ Refusal.Memory) → Appends [] (K.held out.old) (K.held out.new)) }
 {
-    match files_plan(alloc, names, tree) {
-        Ok(text) => write_text(text.as_slice(), out),
-        Err(refusal) => Err(refusal),
-    }
+    write_answer(files_plan(alloc, names, tree), out)
 }
 
 /// The text of the plan of the model of the joined tree of files with these names.
