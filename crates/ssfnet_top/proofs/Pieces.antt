@@ -1,5 +1,5 @@
 -- Texts that are sent in pieces.
-use Rattle.std.proofs.Common.{ℕ, ◌≡◌, ◌<◌, ◌+◌, ◌∙◌, sym, ap, subst, refl, List, [], ◌∷◌, ◌++◌, length, take, drop, get_or, append_assoc, append-nil, length-append, take-append-drop, take-suc, add-one, arith, Option, Some, None}
+use Rattle.std.proofs.Common.{ℕ, ◌≡◌, ◌<◌, ◌+◌, ◌∙◌, sym, ap, subst, refl, List, [], ◌∷◌, ◌++◌, length, take, drop, get_or, append_assoc, append-nil, length-append, take-append-drop, take-suc, add-one, arith, Option, Some, None, Result, Ok, Err, OnErr}
 use Rattle.std.proofs.Math.Seq.{take-append-add, take-append_seam}
 use Rattle.std.proofs.lemmas.List.{take-append-le}
 use Rattle.std.proofs.lemmas.Grind.{flat_map-append}
@@ -8,6 +8,7 @@ use Rattle.sim_base.specs.Outside.{Appends, AppendsPrefix}
 use Rattle.ssf_model.specs.declared.event.Entry.{Entry}
 use Rattle.ssf_model.specs.declared.event.Names.{Names}
 use Rattle.trace_writer.specs.Trace.{record_text, entries_text, trace_text, end_line}
+use Rattle.ssfnet_top.specs.declared.refusal.Refusal.{Refusal}
 use Rattle.ssfnet_top.specs.Sending.{Sends}
 
 -- nothing is sent yet
@@ -125,6 +126,11 @@ part_one names entries i e base mid o m n within is before now =
     ∙ (sym (append_assoc base (entries_text names (take (i + 1) entries)) (entries_text names (drop (i + 1) entries)))
     ∙ ap (λ (text : List ℕ). text ++ entries_text names (drop (i + 1) entries)) (text_more names entries i e base within is)) in
     subst P (sym whole) (part_longer _ (entries_text names (drop (i + 1) entries)) o n part)
+
+-- what was sent, whatever was refused
+pub part_of_err : {P : Type 0} (answer : Result (Unit {0}) Refusal) → P → OnErr answer P
+part_of_err (Ok unit) part = tt
+part_of_err (Err r) part = part
 
 -- where nothing was gathered before
 pub sends_from : (gathered text mid : List ℕ) (o m : Option (List ℕ)) → gathered ≡ [] → Sends (gathered ++ text) mid o m → Sends text mid o m

@@ -3,6 +3,7 @@ ghost use Rattle.std.specs.Prelude.{◌≡◌, ◌++◌, ◌∷◌, [], ℕ, len
 ghost use Rattle.ssfnet_top.specs.Refusals.{printable, printable_byte, status_of, line_of, placed_text, path_fault_text, tree_fault_text, shape_fault_text};
 ghost use Rattle.nhi_address.specs.NhiText.{nhi_text};
 
+use crate::sending::SendEnd;
 use dml_resolve::PathFault;
 use dml_tree::{Place, TreeFault};
 use net_graph::ShapeFault;
@@ -56,6 +57,21 @@ impl From<ShapeFault> for Refusal {
         match fault {
             ShapeFault::Memory => Refusal::Memory,
             fault => Refusal::Shape(fault),
+        }
+    }
+}
+
+impl From<SendEnd> for Refusal {
+    ghost use Rattle.std.specs.Prelude.{◌≡◌, ◌⊎◌};
+    ghost use Rattle.ssfnet_top.specs.declared.refusal.Refusal.TheVariants as refusal;
+    ghost use Rattle.ssfnet_top.specs.declared.sending.SendEnd.TheVariants as end;
+
+    ghost from_gives = { λ e r. ((e ≡ end.Memory) × (r ≡ refusal.Memory)) ⊎ ((e ≡ end.Failed) × (r ≡ refusal.Write)) };
+
+    fn from(end: SendEnd) -> Refusal {
+        match end {
+            SendEnd::Memory => Refusal::Memory,
+            SendEnd::Failed => Refusal::Write,
         }
     }
 }

@@ -10,7 +10,7 @@ ghost use Rattle.ssfnet_top.specs.FilePlaces.{ArePlaced};
 ghost use Rattle.ssfnet_top.specs.Ending.{Answers, IsOfModel, IsOfCommand};
 
 use crate::resolving::resolve_files;
-use crate::sending::{SendEnd, flush, send_entries};
+use crate::sending::{flush, send_entries};
 use crate::{Command, Refusal};
 use dml_tree::Tree;
 use global_list::{Single, SingleEnd, run_single};
@@ -125,15 +125,9 @@ fn write_records<K: Sink>(
     ensures statuses { IfErr result (λ r. (r ≡ Refusal.Memory) ⊎ ((r ≡ Refusal.Write) × Rose (K.faults out.old) (K.faults out.new))) }
 {
     let mut gathered = Vec::new(alloc);
-    match send_entries(names, entries, &mut gathered, out) {
-        Ok(()) => {}
-        Err(SendEnd::Memory) => return Err(Refusal::Memory),
-        Err(SendEnd::Failed) => return Err(Refusal::Write),
-    }
-    match flush(&mut gathered, out) {
-        Ok(()) => Ok(()),
-        Err(_failed) => Err(Refusal::Write),
-    }
+    send_entries(names, entries, &mut gathered, out)?;
+    flush(&mut gathered, out)?;
+    Ok(())
 }
 
 /// Writes the trace of a run that executed these entries, the last of them the event number `count`.
@@ -151,17 +145,8 @@ fn write_trace<K: Sink>(
     ensures statuses { IfErr result (λ r. (r ≡ Refusal.Memory) ⊎ ((r ≡ Refusal.Write) × Rose (K.faults out.old) (K.faults out.new))) }
 {
     let mut gathered = Vec::new(alloc);
-    match send_entries(names, entries, &mut gathered, out) {
-        Ok(()) => {}
-        Err(SendEnd::Memory) => return Err(Refusal::Memory),
-        Err(SendEnd::Failed) => return Err(Refusal::Write),
-    }
-    match end_line(until, count, &mut gathered) {
-        Ok(()) => {}
-        Err(_memory) => return Err(Refusal::Memory),
-    }
-    match flush(&mut gathered, out) {
-        Ok(()) => Ok(()),
-        Err(_failed) => Err(Refusal::Write),
-    }
+    send_entries(names, entries, &mut gathered, out)?;
+    end_line(until, count, &mut gathered)?;
+    flush(&mut gathered, out)?;
+    Ok(())
 }
