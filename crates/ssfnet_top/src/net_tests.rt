@@ -512,23 +512,26 @@ fn push_often(text: &mut String, piece: &str, often: u32) -> Result<(), Fail> {
     Ok(())
 }
 
-/// Nets in Nets, so many, of which each holds a link and has twice the size of the one in it.
-fn nested_nets(alloc: Global, nets: u32) -> Result<String, Fail> {
+/// Nets in Nets, so many, of which each holds a link and has twice the size of the one in it, and whose
+/// interfaces have these attributes.
+fn nested_nets(alloc: Global, nets: u32, interface: &str) -> Result<String, Fail> {
     let mut text = String::new(alloc);
     push_often(&mut text, "Net [ id 0 ", nets)?;
-    let parts = "host [ id 0 interface [ id 0 ] ] link [ attach 0(0) ] ] ";
-    push_often(&mut text, parts, nets)?;
+    let parts = format!(in alloc;
+        "host [ id 0 interface [ id 0 {interface} ] ] link [ attach 0(0) ] ] "
+    )?;
+    push_often(&mut text, parts.as_str(), nets)?;
     Ok(text)
 }
 
 #[test]
 fn the_top_net_has_2_to_the_24_addresses(rt: HostRuntime) -> Result<(), Fail> {
-    let text = nested_nets(rt.alloc(), 23)?;
+    let text = nested_nets(rt.alloc(), 23, "")?;
     let counts =
         b"nets 23 hosts 23 routers 0 interfaces 23 links 23 sessions 0 patterns 0 frequency 1000000000\n";
     check_text(&rt, "check m.dml", text.as_str(), 0, counts, b"")?;
     check_part(&rt, "plan m.dml", text.as_str(), b"net - 10.0.0.0/8\n")?;
-    let text = nested_nets(rt.alloc(), 24)?;
+    let text = nested_nets(rt.alloc(), 24, "")?;
     let err = b"shape NoSpace\n";
     check_text(&rt, "check m.dml", text.as_str(), 6, b"", err)?;
     check_text(&rt, "plan m.dml", text.as_str(), 6, b"", err)
@@ -606,13 +609,21 @@ fn channels(alloc: Global, clients: u32) -> Result<String, Fail> {
         "Net [ host [ idrange [ from 1 to 169 ] ] host [ id 0 interface [ idrange [ from 0 to 511 ] ] graph [ ",
     )?;
     push_often(&mut text, "ProtocolSession [ name client ] ", clients)?;
-    text.push_str("] ] link [ ")?;
-    for interface in 0..512u32 {
+    text.push_str("] ] ")?;
+    push_shared_link(alloc, &mut text, 512)?;
+    text.push_str("]")?;
+    Ok(text)
+}
+
+/// Appends a link to which so many interfaces of host 0 are attached.
+fn push_shared_link(alloc: Global, text: &mut String, attachments: u32) -> Result<(), Fail> {
+    text.push_str("link [ ")?;
+    for interface in 0..attachments {
         let attach = format!(in alloc; "attach 0({interface}) ")?;
         text.push_str(attach.as_str())?;
     }
-    text.push_str("] ]")?;
-    Ok(text)
+    text.push_str("] ")?;
+    Ok(())
 }
 
 /// 170 hosts have 340 start and timer channels and 170 pokes, and the link has 512 times 511 mappings.
@@ -626,4 +637,30 @@ fn a_model_has_at_most_262_144_channels(rt: HostRuntime) -> Result<(), Fail> {
     let err = b"shape TooManyChannels\n";
     check_text(&rt, "check m.dml", text.as_str(), 6, b"", err)?;
     check_text(&rt, "plan m.dml", text.as_str(), 6, b"", err)
+}
+
+/// A host with so many interfaces on one link, and with these attributes of each.
+fn crowded_link(alloc: Global, attachments: u32, interface: &str) -> Result<String, Fail> {
+    let last = attachments.saturating_sub(1);
+    let mut text = format!(in alloc;
+        "Net [ host [ id 0 interface [ idrange [ from 0 to {last} ] {interface} ] ] "
+    )?;
+    push_shared_link(alloc, &mut text, attachments)?;
+    text.push_str("]")?;
+    Ok(text)
+}
+
+/// Want of space is found before a time above its limit, and that before too many channels.
+#[test]
+fn the_faults_of_a_plan_have_an_order(rt: HostRuntime) -> Result<(), Fail> {
+    let late = "latency 99999999";
+    let text = nested_nets(rt.alloc(), 24, late)?;
+    let err = b"shape NoSpace\n";
+    check_text(&rt, "check m.dml", text.as_str(), 6, b"", err)?;
+    let text = crowded_link(rt.alloc(), 600, late)?;
+    let err = b"shape DelayTooLong\n";
+    check_text(&rt, "check m.dml", text.as_str(), 6, b"", err)?;
+    let text = crowded_link(rt.alloc(), 600, "")?;
+    let err = b"shape TooManyChannels\n";
+    check_text(&rt, "check m.dml", text.as_str(), 6, b"", err)
 }
