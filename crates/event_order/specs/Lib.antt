@@ -1,2 +1,5 @@
 pub mod Order
 pub mod Pending
+pub mod Machine
+pub mod Run
+pub mod Laws

@@ -4,10 +4,10 @@ use Rattle.event_order.specs.declared.key.Key.{Key}
 use Rattle.event_order.specs.Order.{child_of}
 use Rattle.event_order.specs.Pending.{Among}
 use Rattle.event_order.proofs.Order.{child_cases}
-use Rattle.event_machine.specs.Machine.{World, option_list, due, after, event, within, all_kept}
-use Rattle.event_machine.specs.Laws.{HasRounds}
-use Rattle.event_machine.proofs.Rounds.{cut_same}
-use Rattle.event_machine.proofs.Steps.{ended_later}
+use Rattle.event_order.specs.Machine.{World, option_list, due, after, event, within, all_kept}
+use Rattle.event_order.specs.Laws.{HasRounds}
+use Rattle.event_order.proofs.Rounds.{cut_same}
+use Rattle.event_order.proofs.Steps.{ended_later}
 use Rattle.ssf_model.specs.declared.event.Event.{Event}
 use Rattle.ssf_model.specs.declared.event.Entry.{Entry}
 use Rattle.ssf_model.specs.declared.entity.Entity.{Entity}

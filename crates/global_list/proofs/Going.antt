@@ -4,7 +4,7 @@ use Rattle.std.specs.List.{flat_map}
 use Rattle.std.proofs.lemmas.Grind.{common_steps}
 use Rattle.event_order.specs.Pending.{put_all}
 use Rattle.event_order.proofs.Pending.{test_cases}
-use Rattle.event_machine.specs.Machine.{World, option_list, due, stepped, executed, after, event, all_kept}
+use Rattle.event_order.specs.Machine.{World, option_list, due, stepped, executed, after, event, all_kept}
 use Rattle.ssf_model.specs.declared.event.Event.{Event}
 use Rattle.ssf_model.specs.declared.event.Entry.{Entry}
 use Rattle.ssf_model.specs.declared.event.Line.{Line}

@@ -11,7 +11,7 @@ use Rattle.event_order.specs.Pending.{put, Among, IsRising}
 use Rattle.event_order.proofs.Order.{same_key, before_asym, before_irrefl}
 use Rattle.std.proofs.lemmas.List.{take_more}
 use Rattle.event_order.proofs.Pending.{test_cases}
-use Rattle.event_machine.specs.Machine.{due}
+use Rattle.event_order.specs.Machine.{due}
 use Rattle.ssf_model.specs.declared.event.Event.{Event}
 use Rattle.global_list.specs.Pending.{key_of, IsKeyed}
 

@@ -2,7 +2,7 @@
 use Rattle.std.specs.Prelude.{◌≡◌, ℕ, ◌-◌, ◌^◌, ◌<◌, ◌≤◌, List, [], ◌∷◌, ◌++◌, length, Some, None, slice_get}
 use Rattle.std.specs.List.{All}
 use Rattle.event_order.specs.Pending.{put_all}
-use Rattle.event_machine.specs.Machine.{World, due, stepped, all_kept}
+use Rattle.event_order.specs.Machine.{World, due, stepped, all_kept}
 use Rattle.ssf_model.specs.declared.event.Event.{Event}
 use Rattle.ssf_model.specs.declared.event.Entry.{Entry}
 use Rattle.ssf_model.specs.declared.process.Process.{Process}

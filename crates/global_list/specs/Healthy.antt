@@ -1,7 +1,7 @@
 -- What holds all along a run, so that each of its events can be executed.
 use Rattle.std.specs.Prelude.{◌≡◌, ℕ, ◌+◌, ◌*◌, ◌<◌, ◌≤◌, List, [], ◌∷◌, length, count_by, IfSome, slice_get}
 use Rattle.event_order.specs.Pending.{Among, IsRising}
-use Rattle.event_machine.specs.Machine.{World}
+use Rattle.event_order.specs.Machine.{World}
 use Rattle.ssf_model.specs.declared.wait.Kind.{Kind}
 use Rattle.ssf_model.specs.declared.wait.Kind.TheVariants.{Begin, Timer, Message}
 use Rattle.ssf_model.specs.declared.event.Event.{Event}

@@ -2,7 +2,7 @@
 
 ghost use Rattle.std.specs.Prelude.{◌≡◌, [], ◌∷◌, IfSome, IfNone, IsSome, is_some, IfOk, OnOk};
 ghost use Rattle.event_order.specs.Pending.{Among, IsRising, put};
-ghost use Rattle.event_machine.specs.Machine.{due};
+ghost use Rattle.event_order.specs.Machine.{due};
 ghost use Rattle.ssf_model.specs.declared.event.Event.{Event as EventValue};
 ghost use Rattle.global_list.specs.Pending.{key_of};
 

@@ -1,7 +1,7 @@
 //! The run of a plan by one event list.
 
 ghost use Rattle.std.specs.Prelude.{◌≡◌, ◌≤◌, ◌⊎◌, ℕ, [], length, IsSome, None};
-ghost use Rattle.event_machine.specs.Machine.{within, all_kept};
+ghost use Rattle.event_order.specs.Machine.{within, all_kept};
 ghost use Rattle.ssf_model.specs.Reaction.{LatestTime};
 ghost use Rattle.ssf_model.specs.Run.{run_event};
 ghost use Rattle.ssf_model.specs.Run.{run_entries};

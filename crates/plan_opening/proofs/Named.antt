@@ -2,8 +2,8 @@
 use Rattle.std.proofs.Common.{ℕ, zero, suc, ◌≡◌, ◌⊎◌, ◌<◌, ◌≤◌, ◌+◌, ◌∙◌, sym, ap, subst, refl, inl, inr, List, [], ◌∷◌, ◌++◌, length, Option, Some, None, slice_get, option_map, arith, add-one, length-set}
 use Rattle.std.specs.List.{All}
 use Rattle.event_order.specs.Pending.{Among}
-use Rattle.event_machine.specs.Machine.{World, due, after, stepped, option_list, within, all_kept}
-use Rattle.event_machine.proofs.Steps.{step_cases}
+use Rattle.event_order.specs.Machine.{World, due, after, stepped, option_list, within, all_kept}
+use Rattle.event_order.proofs.Steps.{step_cases}
 use Rattle.ssf_model.specs.declared.event.Event.{Event}
 use Rattle.ssf_model.specs.declared.event.Entry.{Entry}
 use Rattle.ssf_model.specs.declared.entity.Entity.{Entity}

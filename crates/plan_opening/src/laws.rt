@@ -1,6 +1,6 @@
 //! Laws over every plan. Each function's contract is a law, and its body is empty.
 ghost use Rattle.std.specs.Prelude.{◌≡◌, ◌<◌, ◌≤◌, ◌^◌, ℕ, List, All, length, None, suc};
-ghost use Rattle.event_machine.specs.Machine.{within};
+ghost use Rattle.event_order.specs.Machine.{within};
 ghost use Rattle.ssf_model.specs.declared.event.Entry.{Entry};
 ghost use Rattle.ssf_model.specs.declared.plan.Plan.{Plan};
 ghost use Rattle.ssf_model.specs.Reaction.{Each, LatestTime};

@@ -4,8 +4,8 @@ use Rattle.std.specs.List.{flat_map}
 use Rattle.event_order.specs.declared.key.Key.{Key}
 use Rattle.event_order.specs.Pending.{Among, put_all}
 use Rattle.event_order.proofs.Pending.{among_put_all_other, among_put_all_self, put_all_among, filter_among}
-use Rattle.event_machine.specs.Machine.{World, executed, after}
-use Rattle.event_machine.proofs.Steps.{step_cases, event_pending, event_in_time}
+use Rattle.event_order.specs.Machine.{World, executed, after}
+use Rattle.event_order.proofs.Steps.{step_cases, event_pending, event_in_time}
 use Rattle.ssf_model.specs.declared.wait.Wake.{Wake}
 use Rattle.ssf_model.specs.declared.wait.Kind.{Kind}
 use Rattle.ssf_model.specs.declared.wait.Kind.TheVariants.{Timer}
@@ -235,5 +235,5 @@ module _ {B S P : Type 0} (r : Reaction S P) (valid : Validity S) (carried : P �
   leads_from x e s m delay payload a w =
       let own : Among m.out_channel s.entity.out_channels = each_among (IsOnOwn s.entity.out_channels) (delivered_to r e s.entity).writes (Channel m.out_channel delay payload) s.owned w in
       let outs : s.planned.out_channels ≡ s.entity.out_channels = ap (λ (t : Shape). t.outs) s.same in
-      let mapping : IsMappingOf plan.entities m = each_among (IsMappingOf plan.entities) plan.mappings m fits.mappings a in
+      let mapping : IsMappingOf plan.entities m = each_among (IsMappingOf plan.entities) plan.mappings m fits.wired.mappings a in
       sym (mapping.sole e.entity s.planned s.there (subst (λ cs. Among m.out_channel cs) (sym outs) own))

@@ -6,8 +6,8 @@ use Rattle.std.proofs.lemmas.Bool.Decides.{nat_tests}
 use Rattle.event_order.specs.declared.key.Key.{Key}
 use Rattle.event_order.specs.Pending.{Among}
 use Rattle.event_order.proofs.Pending.{among_append_right, append_among, among_filter, filter_among}
-use Rattle.event_machine.specs.Machine.{World, option_list}
-use Rattle.event_machine.proofs.Steps.{step_cases}
+use Rattle.event_order.specs.Machine.{World, option_list}
+use Rattle.event_order.proofs.Steps.{step_cases}
 use Rattle.ssf_model.specs.declared.event.Event.{Event}
 use Rattle.ssf_model.specs.declared.event.Parcel.{Parcel}
 use Rattle.ssf_model.specs.declared.entity.Entity.{Entity}

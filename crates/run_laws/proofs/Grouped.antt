@@ -5,9 +5,9 @@ use Rattle.event_order.specs.declared.key.Key.{Key}
 use Rattle.event_order.specs.Order.{child_of}
 use Rattle.event_order.specs.Pending.{Among}
 use Rattle.event_order.proofs.Pending.{test_cases, among_append_left, among_append_right}
-use Rattle.event_machine.specs.Run.{share, acted}
-use Rattle.event_machine.specs.Laws.{IsLocal}
-use Rattle.event_machine.proofs.Local.{own_state}
+use Rattle.event_order.specs.Run.{share, acted}
+use Rattle.event_order.specs.Laws.{IsLocal}
+use Rattle.event_order.proofs.Local.{own_state}
 use Rattle.ssf_model.specs.declared.event.Event.{Event}
 use Rattle.ssf_model.specs.declared.process.Process.{Process}
 use Rattle.ssf_model.specs.declared.entity.Entity.{Entity}
@@ -112,24 +112,24 @@ module _ {B S P : Type 0} (r : Reaction S P) (valid : Validity S) (carried : P �
   timer_low : (k c : ℕ) → HasAt plan.entities k (IsTimerOf c) → c < length plan.entities + length (timers_of plan.entities)
   timer_low k c h =
       let all : Among c (timers_of plan.entities) = among_flat_at (λ (e : Entity B S P). flat_map (λ p. option_to_list p.timer) e.processes) c plan.entities k h.0 h.1 h.2 in
-      let range = among_range (length plan.entities) (length (timers_of plan.entities)) c (subst (λ xs. Among c xs) fits.timers all) in omega arith
+      let range = among_range (length plan.entities) (length (timers_of plan.entities)) c (subst (λ xs. Among c xs) fits.wired.timers all) in omega arith
 
   mapping_high : (m : Mapping) → Among m plan.mappings → length plan.entities + length (timers_of plan.entities) ≤ m.channel
   mapping_high m a =
       let range = above_range (length plan.entities + length (timers_of plan.entities)) (length plan.mappings) m.channel
-      (subst (λ xs. Among m.channel xs) fits.channels (among_mapped m plan.mappings a)) in omega arith
+      (subst (λ xs. Among m.channel xs) fits.wired.channels (among_mapped m plan.mappings a)) in omega arith
 
   -- one entity writes on a channel
   one_writer : (i k c : ℕ) → WritesOn plan i c → WritesOn plan k c → i ≡ k
   one_writer i k c (inl a) (inl b) =
-      let same : a.0 ≡ b.0 = one_mapping a.0 b.0 plan.mappings (subst IsOnce (sym fits.channels) (range_once (length plan.entities + length (timers_of plan.entities)) (length plan.mappings)))
+      let same : a.0 ≡ b.0 = one_mapping a.0 b.0 plan.mappings (subst IsOnce (sym fits.wired.channels) (range_once (length plan.entities + length (timers_of plan.entities)) (length plan.mappings)))
       a.1 b.1 (a.2.channel_is ∙ sym b.2.channel_is) in
       sym a.2.source ∙ (ap (λ (m : Mapping). m.from) same ∙ b.2.source)
   one_writer i k c (inl a) (inr b) = let high = mapping_high a.0 a.1 in let low = timer_low k c b in let is = a.2.channel_is in absurd (omega arith)
   one_writer i k c (inr a) (inl b) = let high = mapping_high b.0 b.1 in let low = timer_low i c a in let is = b.2.channel_is in absurd (omega arith)
   one_writer i k c (inr a) (inr b) =
       one_place (λ (e : Entity B S P). flat_map (λ p. option_to_list p.timer) e.processes) c plan.entities i k a.0 b.0
-      (subst IsOnce (sym fits.timers) (range_once (length plan.entities) (length (timers_of plan.entities)))) a.1 b.1 a.2 b.2
+      (subst IsOnce (sym fits.wired.timers) (range_once (length plan.entities) (length (timers_of plan.entities)))) a.1 b.1 a.2 b.2
 
   -- what an event sends goes on channels on which its entity writes
   Sends : States B S P → Event P → Type 0

@@ -4,7 +4,7 @@ use Rattle.event_order.specs.declared.key.Key.{Key}
 use Rattle.event_order.specs.Order.{IsBefore, child_of}
 use Rattle.event_order.specs.Pending.{Among, IsApart}
 use Rattle.event_order.proofs.Order.{child_after, child_cases}
-use Rattle.event_machine.specs.Laws.{IsLawful, IsOpening, HasRounds}
+use Rattle.event_order.specs.Laws.{IsLawful, IsOpening, HasRounds}
 use Rattle.ssf_model.specs.declared.event.Event.{Event}
 use Rattle.ssf_model.specs.declared.entity.Entity.{Entity}
 use Rattle.ssf_model.specs.declared.plan.Mapping.{Mapping}

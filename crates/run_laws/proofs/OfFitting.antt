@@ -2,11 +2,11 @@
 use Rattle.std.proofs.Common.{◌≡◌, ℕ, zero, suc, ◌+◌, ◌<◌, ◌≤◌, Bool, true, List, ◌++◌, length, refl, sym, ap, ◌∙◌, subst, inl, inr, arith, Some, option_map, slice_get, eqb-true, eq-eqb}
 use Rattle.event_order.specs.declared.key.Key.{Key}
 use Rattle.event_order.specs.Pending.{Among}
-use Rattle.event_machine.specs.Machine.{World, option_list, due, after, event, within, all_kept}
-use Rattle.event_machine.specs.Run.{Chain}
-use Rattle.event_machine.specs.Laws.{HasRounds}
-use Rattle.event_machine.proofs.Rounds.{rounds}
-use Rattle.event_machine.proofs.Steps.{le_test}
+use Rattle.event_order.specs.Machine.{World, option_list, due, after, event, within, all_kept}
+use Rattle.event_order.specs.Run.{Chain}
+use Rattle.event_order.specs.Laws.{HasRounds}
+use Rattle.event_order.proofs.Rounds.{rounds}
+use Rattle.event_order.proofs.Steps.{le_test}
 use Rattle.ssf_model.specs.declared.out.Written.TheVariants.{Channel, Timer as TimerWrite}
 use Rattle.ssf_model.specs.declared.event.Event.{Event}
 use Rattle.ssf_model.specs.declared.event.Entry.{Entry}

@@ -3,12 +3,12 @@ use Rattle.std.proofs.Common.{◌≡◌, ◌⊎◌, ℕ, ◌+◌, ◌<◌, ◌�
 use Rattle.event_order.specs.declared.key.Key.{Key}
 use Rattle.event_order.specs.Order.{IsBefore}
 use Rattle.event_order.specs.Pending.{Among, IsRising}
-use Rattle.event_machine.specs.Machine.{within, all_kept}
-use Rattle.event_machine.specs.Run.{WrittenBefore, ExecutedWithin, Arises, Chain}
-use Rattle.event_machine.proofs.Steps.{event_arises, ended_later, ended_after}
-use Rattle.event_machine.proofs.Keys.{keys_rise, pending_rises, one_key, pending_executed}
-use Rattle.event_machine.proofs.Rounds.{rounds, first_events_same}
-use Rattle.event_machine.proofs.Finite.{finite}
+use Rattle.event_order.specs.Machine.{within, all_kept}
+use Rattle.event_order.specs.Run.{WrittenBefore, ExecutedWithin, Arises, Chain}
+use Rattle.event_order.proofs.Steps.{event_arises, ended_later, ended_after}
+use Rattle.event_order.proofs.Keys.{keys_rise, pending_rises, one_key, pending_executed}
+use Rattle.event_order.proofs.Rounds.{rounds, first_events_same}
+use Rattle.event_order.proofs.Finite.{finite}
 use Rattle.ssf_model.specs.declared.event.Event.{Event}
 use Rattle.ssf_model.specs.declared.plan.Plan.{Plan}
 use Rattle.ssf_model.specs.Reaction.{Reaction}

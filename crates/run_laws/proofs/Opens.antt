@@ -21,9 +21,9 @@ each_map Q R (x ∷ xs) f e = (f x e.0, each_map Q R xs f e.1)
 
 pub fits_open : {B S P : Type 0} (valid : Validity S) (carried : P → Type 0) (plan : Plan B S P) → Fits valid carried plan → OpensInOrder plan
 fits_open valid carried plan fits = record {
-  rising = fits.rising;
-  rounds = each_map (IsPending carried plan) (λ e. e.key.round ≡ 0) plan.events (λ e p. p.round) fits.pending;
-  numbers = each_map (IsPending carried plan) (λ e. e.key.number < counts_of plan.counts e.key.channel) plan.events (λ e p. p.number) fits.pending;
+  rising = fits.opened.rising;
+  rounds = each_map (IsPending carried plan) (λ e. e.key.round ≡ 0) plan.events (λ e p. p.round) fits.opened.pending;
+  numbers = each_map (IsPending carried plan) (λ e. e.key.number < counts_of plan.counts e.key.channel) plan.events (λ e p. p.number) fits.opened.pending;
 }
 
 less_first : (x y : ℕ) (r : Ordering) → x < y → ordering_then (nat_cmp x y) r ≡ Less

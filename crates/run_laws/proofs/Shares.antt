@@ -5,12 +5,12 @@ use native.Mathlib.Nat.{suc-add}
 use Rattle.event_order.specs.declared.key.Key.{Key}
 use Rattle.event_order.specs.Pending.{Among}
 use Rattle.event_order.proofs.Pending.{test_cases}
-use Rattle.event_machine.specs.Machine.{Machine, World, due, after, event, option_list, first_events}
-use Rattle.event_machine.specs.Run.{Chain, share}
-use Rattle.event_machine.specs.Laws.{HasRounds}
-use Rattle.event_machine.proofs.Local.{share_own}
-use Rattle.event_machine.proofs.Rounds.{rounds, same_cut}
-use Rattle.event_machine.proofs.Steps.{difference}
+use Rattle.event_order.specs.Machine.{Machine, World, due, after, event, option_list, first_events}
+use Rattle.event_order.specs.Run.{Chain, share}
+use Rattle.event_order.specs.Laws.{HasRounds}
+use Rattle.event_order.proofs.Local.{share_own}
+use Rattle.event_order.proofs.Rounds.{rounds, same_cut}
+use Rattle.event_order.proofs.Steps.{difference}
 
 longer_filter : {E : Type 0} (p : E → Bool) (xs ys : List E) → length (filter p xs) ≤ length (filter p (xs ++ ys))
 longer_filter p [] ys = omega arith

@@ -6,8 +6,8 @@ ghost use Rattle.std.specs.Prelude.{◌≡◌, ◌⊎◌, ℕ, ◌+◌, ◌<◌,
 ghost use Rattle.event_order.specs.declared.key.Key.{Key as KeyValue};
 ghost use Rattle.event_order.specs.Order.{IsBefore};
 ghost use Rattle.event_order.specs.Pending.{Among, IsRising};
-ghost use Rattle.event_machine.specs.Machine.{within, all_kept};
-ghost use Rattle.event_machine.specs.Run.{WrittenBefore, ExecutedWithin, Arises, Chain, share, acted};
+ghost use Rattle.event_order.specs.Machine.{within, all_kept};
+ghost use Rattle.event_order.specs.Run.{WrittenBefore, ExecutedWithin, Arises, Chain, share, acted};
 ghost use Rattle.ssf_model.specs.declared.event.Event.{Event};
 ghost use Rattle.ssf_model.specs.declared.event.Parcel.{Parcel};
 ghost use Rattle.ssf_model.specs.declared.plan.Plan.{Plan};

@@ -1,7 +1,7 @@
 //! The laws of the run of every plan.
 //!
 //! A plan is read as a machine (`ssf_model`), whose events are executed one by one in the order of
-//! their keys (`event_machine`). The laws are the contracts of the functions in [`laws`], which have
+//! their keys (`event_order`). The laws are the contracts of the functions in [`laws`], which have
 //! empty bodies; `proofs/Lawful.antt` shows that the machine of a plan meets what the laws of
 //! machines ask. Plans that fit stay healthy all along (`global_list`), so that entities write on
 //! their own channels alone. The laws of writes by their place, of promises and of parcels hold of

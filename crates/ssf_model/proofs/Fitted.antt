@@ -200,31 +200,35 @@ planned_fits B S P valid carried timed d is states =
     let total : length (ones ++ zeros) ≡ starts + others = omega (arith, length-append ones zeros, length-replicate {A = ℕ} starts 1, length-replicate {A = ℕ} others 0) in
     let within = is.range.channels in
     record {
-      entities = valid_entities B S P valid starts d.entities states has.few;
-      processes = all_processes_fit B S P starts d.entities;
-      ins = λ i j c x y at there in_x in_y.
-          let one = first_at B S P starts d.entities i x at in
-          let two = first_at B S P starts d.entities j y there in
-          let a : slice_get d.in_owners c ≡ Some i = has.ins.sole c i one.draft one.there (subst (λ (cs : List ℕ). Among c cs) one.ins in_x) in
-          let b : slice_get d.in_owners c ≡ Some j = has.ins.sole c j two.draft two.there (subst (λ (cs : List ℕ). Among c cs) two.ins in_y) in
-          cc;
-      outs = λ i j c x y at there in_x in_y.
-          let one = first_at B S P starts d.entities i x at in
-          let two = first_at B S P starts d.entities j y there in
-          let a : slice_get (owners_of d.outs) c ≡ Some i = has.outs.sole c i one.draft one.there (subst (λ (cs : List ℕ). Among c cs) one.outs in_x) in
-          let b : slice_get (owners_of d.outs) c ≡ Some j = has.outs.sole c j two.draft two.there (subst (λ (cs : List ℕ). Among c cs) two.outs in_y) in
-          cc;
-      timers = told ∙ (ap (λ k. range_with_len k (all_timers d.entities)) (sym size) ∙ ap (λ n. range_with_len (length es) n) (sym number));
-      channels = channels_are (starts + all_timers d.entities) d.mappings
-          ∙ (ap (λ k. range_with_len k (length d.mappings)) (ap (λ k. k + all_timers d.entities) (sym size) ∙ ap (λ n. length es + n) (sym number))
-          ∙ ap (λ n. range_with_len (length es + length (timers_of es)) n) (sym long));
-      mappings = mappings_fit B S P starts (starts + all_timers d.entities) d d.mappings has has.mappings;
-      size = omega arith;
-      most = omega arith;
-      counts = each_replicate starts 1 zeros (omega arith) (none_more others);
-      before = omega arith;
-      rising = starts_rise P 0 starts;
-      pending = starts_pending carried _ 0 starts (omega arith) (λ c inside. count_start starts c zeros (subst (λ n. c < n) size inside));
+      wired = record {
+        ins = λ i j c x y at there in_x in_y.
+            let one = first_at B S P starts d.entities i x at in
+            let two = first_at B S P starts d.entities j y there in
+            let a : slice_get d.in_owners c ≡ Some i = has.ins.sole c i one.draft one.there (subst (λ (cs : List ℕ). Among c cs) one.ins in_x) in
+            let b : slice_get d.in_owners c ≡ Some j = has.ins.sole c j two.draft two.there (subst (λ (cs : List ℕ). Among c cs) two.ins in_y) in
+            cc;
+        outs = λ i j c x y at there in_x in_y.
+            let one = first_at B S P starts d.entities i x at in
+            let two = first_at B S P starts d.entities j y there in
+            let a : slice_get (owners_of d.outs) c ≡ Some i = has.outs.sole c i one.draft one.there (subst (λ (cs : List ℕ). Among c cs) one.outs in_x) in
+            let b : slice_get (owners_of d.outs) c ≡ Some j = has.outs.sole c j two.draft two.there (subst (λ (cs : List ℕ). Among c cs) two.outs in_y) in
+            cc;
+        timers = told ∙ (ap (λ k. range_with_len k (all_timers d.entities)) (sym size) ∙ ap (λ n. range_with_len (length es) n) (sym number));
+        channels = channels_are (starts + all_timers d.entities) d.mappings
+            ∙ (ap (λ k. range_with_len k (length d.mappings)) (ap (λ k. k + all_timers d.entities) (sym size) ∙ ap (λ n. length es + n) (sym number))
+            ∙ ap (λ n. range_with_len (length es + length (timers_of es)) n) (sym long));
+        mappings = mappings_fit B S P starts (starts + all_timers d.entities) d d.mappings has has.mappings;
+        most = omega arith;
+      };
+      opened = record {
+        entities = valid_entities B S P valid starts d.entities states has.few;
+        processes = all_processes_fit B S P starts d.entities;
+        size = omega arith;
+        counts = each_replicate starts 1 zeros (omega arith) (none_more others);
+        before = omega arith;
+        rising = starts_rise P 0 starts;
+        pending = starts_pending carried _ 0 starts (omega arith) (λ c inside. count_start starts c zeros (subst (λ n. c < n) size inside));
+      };
     }
 
 -- the parts of the plan, one by one

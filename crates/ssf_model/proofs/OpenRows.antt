@@ -3,7 +3,7 @@
 use Rattle.std.proofs.Common.{◌≡◌, ℕ, zero, suc, [], ◌∷◌, refl, sym, subst, inl, inr, arith, Some, slice_get}
 use Rattle.event_order.specs.Order.{comes_before, IsBefore}
 use Rattle.event_order.specs.Pending.{Among}
-use Rattle.event_machine.specs.Machine.{all_kept}
+use Rattle.event_order.specs.Machine.{all_kept}
 use Rattle.ssf_model.specs.declared.wait.Wait.TheVariants.{OnFor, Forever}
 use Rattle.ssf_model.specs.declared.wait.Kind.TheVariants.{Timer}
 use Rattle.ssf_model.specs.declared.entity.Entity.{Entity}
@@ -61,23 +61,27 @@ before_second y (inr a) = absurd a
 it_fits : Fits (λ s ins outs timed waits. Unit {0}) (λ p. Unit {0}) half
 unfolding half listener key second_end
 it_fits = record {
-  entities = (record { state = tt; few = omega arith }, tt);
-  processes = ((record { waits = (inl refl, tt); untimed = λ e h. cc; ticket = omega arith }, (record { waits = tt; untimed = λ e h. cc; ticket = omega arith }, tt)), tt);
-  ins = λ i j c x y at there a b. let p = only_first i x at in let q = only_first j y there in omega arith;
-  outs = λ i j c x y at there a b. let p = only_first i x at in let q = only_first j y there in omega arith;
-  timers = refl;
-  channels = refl;
-  mappings = (record { from = (listener, refl, inl refl); to = (listener, refl, inl refl); sole = λ i e at a. only_first i e at; delay = omega arith; priority = omega arith }, tt);
-  size = refl;
-  most = omega arith;
-  counts = (omega arith, (omega arith, (omega arith, (omega arith, tt))));
-  before = omega arith;
-  rising = (before_second, ((λ y a. absurd a), tt));
-  pending = (
-    record { entity = omega arith; on_channel = ((listener, refl, (_, refl, record { on = refl; given = omega arith; ends = λ h. absurd (omega arith) })), refl); round = refl; number = omega arith; time = omega arith },
-    (
-      record { entity = omega arith; on_channel = ((listener, refl, (_, refl, record { on = refl; given = omega arith; ends = λ h. refl })), refl); round = refl; number = omega arith; time = omega arith },
-      tt,
-    ),
-  );
+  wired = record {
+    ins = λ i j c x y at there a b. let p = only_first i x at in let q = only_first j y there in omega arith;
+    outs = λ i j c x y at there a b. let p = only_first i x at in let q = only_first j y there in omega arith;
+    timers = refl;
+    channels = refl;
+    mappings = (record { from = (listener, refl, inl refl); to = (listener, refl, inl refl); sole = λ i e at a. only_first i e at; delay = omega arith; priority = omega arith }, tt);
+    most = omega arith;
+  };
+  opened = record {
+    entities = (record { state = tt; few = omega arith }, tt);
+    processes = ((record { waits = (inl refl, tt); untimed = λ e h. cc; ticket = omega arith }, (record { waits = tt; untimed = λ e h. cc; ticket = omega arith }, tt)), tt);
+    size = refl;
+    counts = (omega arith, (omega arith, (omega arith, (omega arith, tt))));
+    before = omega arith;
+    rising = (before_second, ((λ y a. absurd a), tt));
+    pending = (
+      record { entity = omega arith; on_channel = ((listener, refl, (_, refl, record { on = refl; given = omega arith; ends = λ h. absurd (omega arith) })), refl); round = refl; number = omega arith; time = omega arith },
+      (
+        record { entity = omega arith; on_channel = ((listener, refl, (_, refl, record { on = refl; given = omega arith; ends = λ h. refl })), refl); round = refl; number = omega arith; time = omega arith },
+        tt,
+      ),
+    );
+  };
 }

@@ -2,7 +2,7 @@
 -- wait and of its second on channel 1.
 use Rattle.std.proofs.Common.{◌≡◌, ℕ, zero, suc, ◌+◌, false, [], ◌∷◌, map, refl, subst, Some, slice_get}
 use Rattle.event_order.specs.Order.{comes_before}
-use Rattle.event_machine.specs.Machine.{all_kept}
+use Rattle.event_order.specs.Machine.{all_kept}
 use Rattle.ssf_model.specs.declared.wait.Kind.TheVariants.{Timer}
 use Rattle.ssf_model.specs.declared.event.Event.{Event}
 use Rattle.ssf_model.specs.declared.event.Parcel.{Parcel}

@@ -3,7 +3,7 @@
 use Rattle.std.proofs.Common.{◌≡◌, ℕ, zero, suc, true, [], ◌∷◌, map, Some, option_map, refl}
 use Rattle.event_order.specs.declared.key.Key.{Key}
 use Rattle.event_order.specs.Order.{comes_before}
-use Rattle.event_machine.specs.Machine.{all_kept}
+use Rattle.event_order.specs.Machine.{all_kept}
 use Rattle.ssf_model.specs.declared.wait.Wait.TheVariants.{For, OnFor, Forever}
 use Rattle.ssf_model.specs.declared.wait.Wake.TheVariants.{Begin, Timer, Message}
 use Rattle.ssf_model.specs.declared.wait.Kind.TheVariants.{Timer as WaitEnd}

@@ -3,7 +3,7 @@ use Rattle.std.specs.Prelude.{ℕ, ◌≡◌, ◌+◌, ◌<◌, ◌≤◌, ◌^�
 use Rattle.std.specs.List.{flat_map, range_with_len}
 use Rattle.event_order.specs.declared.key.Key.{Key}
 use Rattle.event_order.specs.Pending.{Among, IsRising}
-use Rattle.event_machine.specs.Machine.{Machine, World, after, event, first_events, option_list}
+use Rattle.event_order.specs.Machine.{Machine, World, after, event, first_events, option_list}
 use Rattle.ssf_model.specs.declared.wait.Kind.{Kind}
 use Rattle.ssf_model.specs.declared.wait.Kind.TheVariants.{Begin, Timer, Message}
 use Rattle.ssf_model.specs.declared.event.Event.{Event}
@@ -120,22 +120,31 @@ pub record IsPending {B S P : Type 0} (carried : P → Type 0) (plan : Plan B S 
   pub number : e.key.number < counts_of plan.counts e.key.channel
   pub time : e.key.time ≤ 1002000000000000000
 
--- a plan: its channels are the start channels by entity, then the timer channels by entity and process, then those of
--- the mappings; its opening is states that are valid with their waits, counts, and pending events in key order
-pub record Fits {B S P : Type 0} (valid : Validity S) (carried : P → Type 0) (plan : Plan B S P) : Type 0 where
-  pub entities : Each (IsValidEntity valid) plan.entities
-  pub processes : Each (λ e. Each (IsProcessOf e.in_channels) e.processes) plan.entities
+-- how a plan is wired, which no opening changes: each entity has in-channels and out-channels of its own, the timer
+-- channels come after the start channels, by entity and then by process, and the mappings' channels after these
+pub record IsWired {B S P : Type 0} (plan : Plan B S P) : Type 0 where
   pub ins : AreOwn (λ e. e.in_channels) plan.entities
   pub outs : AreOwn (λ e. e.out_channels) plan.entities
   pub timers : timers_of plan.entities ≡ range_with_len (length plan.entities) (length (timers_of plan.entities))
   pub channels : map (λ m. m.channel) plan.mappings ≡ range_with_len (length plan.entities + length (timers_of plan.entities)) (length plan.mappings)
   pub mappings : Each (IsMappingOf plan.entities) plan.mappings
+  pub most : length plan.entities + length (timers_of plan.entities) + length plan.mappings ≤ MostChannels
+
+-- where a plan opens: states that are valid with their waits, tickets, a count for each channel, and pending events in
+-- key order
+pub record IsOpen {B S P : Type 0} (valid : Validity S) (carried : P → Type 0) (plan : Plan B S P) : Type 0 where
+  pub entities : Each (IsValidEntity valid) plan.entities
+  pub processes : Each (λ e. Each (IsProcessOf e.in_channels) e.processes) plan.entities
   pub size : length plan.counts ≡ length plan.entities + length (timers_of plan.entities) + length plan.mappings
-  pub most : length plan.counts ≤ MostChannels
   pub counts : Each (λ count. count ≤ 5 * 10 ^ 18) plan.counts
   pub before : plan.before ≤ 10 ^ 18
   pub rising : IsRising (λ e. e.key) plan.events
   pub pending : Each (IsPending carried plan) plan.events
+
+-- a plan: it is wired, and open
+pub record Fits {B S P : Type 0} (valid : Validity S) (carried : P → Type 0) (plan : Plan B S P) : Type 0 where
+  pub wired : IsWired plan
+  pub opened : IsOpen valid carried plan
 
 -- the entry of an event that is executed at this entity: its key, its entity, and the lines that its actions told
 abbrev pub entry_by : {B S P : Type 0} → Reaction S P → Event P → Option (Entity B S P) → Entry

@@ -3,8 +3,8 @@
 use Rattle.std.specs.Prelude.{ℕ, zero, suc, ◌≡◌, ◌+◌, ◌<◌, ◌≤◌, Bool, true, nat_eq, List, [], ◌++◌, length, Some, slice_get}
 use Rattle.std.specs.List.{filter, flat_map}
 use Rattle.event_order.specs.declared.key.Key.{Key}
-use Rattle.event_machine.specs.Machine.{option_list}
-use Rattle.event_machine.specs.Run.{share}
+use Rattle.event_order.specs.Machine.{option_list}
+use Rattle.event_order.specs.Run.{share}
 use Rattle.ssf_model.specs.declared.event.Event.{Event}
 use Rattle.ssf_model.specs.declared.event.Parcel.{Parcel}
 use Rattle.ssf_model.specs.declared.plan.Plan.{Plan}

@@ -2,7 +2,7 @@
 //! out-channels that are mapped to in-channels.
 //!
 //! A model is a [`Behaviour`]: how a process reacts to what wakes it. [`Entity::deliver`] is the wake
-//! rule, [`PlanBuilder`] makes a [`Plan`], and a plan's run is that of a machine of `event_machine`.
+//! rule, [`PlanBuilder`] makes a [`Plan`], and a plan's run is that of a machine of `event_order`.
 //!
 //! Contracts cite `specs/Wake.antt`, `Reaction.antt` and `Deliver.antt` (what wakes a process, what a
 //! behaviour keeps, what an event makes of its entity), `Entities.antt` (entities whose states are

@@ -1,7 +1,7 @@
 -- The plan of a ring, and the entries of its run.
 use Rattle.std.proofs.Common.{ℕ, ◌≡◌, ◌<◌, ◌≤◌, ◌+◌, ◌∙◌, sym, ap, subst, refl, List, length, Bool, true, false, Ok, Err, All, arith, suc, cond, nat_lt}
 use Rattle.std.specs.List.{list_any}
-use Rattle.event_machine.specs.Machine.{within}
+use Rattle.event_order.specs.Machine.{within}
 use Rattle.dml_tree.specs.declared.tree.Attribute.{Attribute}
 use Rattle.net_graph.specs.declared.fault.ShapeFault.TheVariants.{DelayTooLong, TooManyChannels}
 use Rattle.ssf_model.specs.declared.event.Entry.{Entry}

@@ -4,8 +4,8 @@ use Rattle.sim_base.specs.Outside.{Files}
 use Rattle.dml_tree.specs.Attributes.{Attributes}
 use Rattle.dml_tree.specs.TreeView.{attributes, joined}
 use Rattle.dml_tree.proofs.OneMeaning.{one_meaning}
-use Rattle.event_machine.specs.Machine.{within}
-use Rattle.event_machine.proofs.Steps.{before_end, lt_or_ge, lt_or_same}
+use Rattle.event_order.specs.Machine.{within}
+use Rattle.event_order.proofs.Steps.{before_end, lt_or_ge, lt_or_same}
 use Rattle.net_graph.specs.declared.fault.ShapeFault.{ShapeFault}
 use Rattle.net_graph.specs.declared.rows.Network.{Network}
 use Rattle.net_graph.specs.Keys.{has_net}

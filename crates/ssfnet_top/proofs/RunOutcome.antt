@@ -1,8 +1,8 @@
 -- What the entries of a run by one event list say of its outcome.
 use Rattle.std.proofs.Common.{ℕ, zero, suc, ◌≡◌, ◌<◌, ◌≤◌, ◌+◌, inl, inr, ◌∙◌, sym, ap, subst, refl, List, length, length-append, Option, Some, None, IsSome, option_map, Bool, arith}
 use Rattle.event_order.specs.declared.key.Key.{Key}
-use Rattle.event_machine.specs.Machine.{World, within, after, event, option_list}
-use Rattle.event_machine.proofs.Steps.{lt_or_same}
+use Rattle.event_order.specs.Machine.{World, within, after, event, option_list}
+use Rattle.event_order.proofs.Steps.{lt_or_same}
 use Rattle.ssf_model.specs.declared.event.Entry.{Entry}
 use Rattle.ssf_model.specs.declared.event.Event.{Event}
 use Rattle.ssf_model.specs.declared.event.Names.{Names}

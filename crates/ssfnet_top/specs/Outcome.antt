@@ -24,7 +24,7 @@ use Rattle.ring_model.specs.declared.ring.Ring.{Ring}
 use Rattle.ring_model.specs.declared.ring.RingState.{RingState}
 use Rattle.ring_model.specs.declared.ring.RingPayload.{RingPayload}
 use Rattle.ring_model.specs.Reacting.{ring_reaction}
-use Rattle.event_machine.specs.Machine.{within}
+use Rattle.event_order.specs.Machine.{within}
 use Rattle.ssf_model.specs.declared.event.Names.{Names}
 use Rattle.ssf_model.specs.declared.plan.Plan.{Plan}
 use Rattle.ssf_model.specs.Reaction.{Reaction}

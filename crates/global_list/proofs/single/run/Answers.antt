@@ -1,5 +1,5 @@
 use Rattle.std.proofs.Common.{◌≡◌, ◌∙◌, ℕ, length, sym, ap, arith, is_some}
-use Rattle.event_machine.specs.Machine.{all_kept}
+use Rattle.event_order.specs.Machine.{all_kept}
 use Rattle.ssf_model.specs.Run.{opening, run_event}
 use Rattle.global_list.proofs.Going.{running_next, event_is, none_of}
 use Rattle.global_list.proofs.single.run.Goals as goal

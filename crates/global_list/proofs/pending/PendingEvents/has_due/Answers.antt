@@ -1,5 +1,5 @@
 use Rattle.std.proofs.Common.{◌∙◌, ap, is_some}
-use Rattle.event_machine.specs.Machine.{due}
+use Rattle.event_order.specs.Machine.{due}
 use Rattle.global_list.specs.Pending.{key_of}
 use Rattle.global_list.proofs.Keyed.{head_due}
 use Rattle.global_list.proofs.pending.PendingEvents.has_due.Goals as goal

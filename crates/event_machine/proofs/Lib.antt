@@ -1,6 +1,0 @@
-pub mod Steps
-pub mod Keys
-pub mod Rounds
-pub mod Finite
-pub mod Local
-pub mod Rows
