@@ -145,12 +145,13 @@ module _ {B S P : Type 0} (carried : P → Type 0) (plan : Plan B S P) where
       let starts = length plan.entities in
       let timers = length (timers_of plan.entities) in
       let size : length plan.counts ≡ starts + timers + length plan.mappings = fits.opened.size in
+      let most : length plan.counts ≤ 262144 = let told = fits.wired.most in omega arith in
       let small : (c : ℕ) → Among c (timers_of plan.entities) → c < length plan.counts = λ c a.
       let h = among_range starts timers c (subst (λ xs. Among c xs) fits.wired.timers a) in omega arith in
       record {
         rising = fits.opened.rising;
         healthy = record {
-          entities = entities_in valid (length plan.counts) plan.entities fits.most fits.opened.entities fits.opened.processes small (omega arith);
+          entities = entities_in valid (length plan.counts) plan.entities most fits.opened.entities fits.opened.processes small (omega arith);
           pending = λ d a. event_in d (each_among (IsPending carried plan) plan.events d fits.opened.pending a);
           counts = λ c. let h = each_count (5 * 10 ^ 18) plan.counts c fits.opened.counts in omega arith;
           mappings = mapping_in (length plan.counts) (starts + timers) (length plan.mappings) plan.entities plan.mappings (omega arith) fits.wired.channels fits.wired.mappings;
