@@ -5,4 +5,5 @@ pub mod Keys
 pub mod Rounds
 pub mod Finite
 pub mod Local
+pub mod Continuing
 pub mod Rows

@@ -94,3 +94,18 @@ pub fn cut_keeps_first<X, E>()
         → ((e : E) → Among e w.pending → (m.key e).round ≡ 0)
         → (n : ℕ) → n ≤ R + 1 → first_events m until (within R) w n ≡ first_events m until all_kept w n }
 {}
+
+/// A run goes on from any of its worlds: after n events and k more it is where k events lead from the
+/// world after n.
+pub fn runs_go_on<X, E>()
+    ensures { (m : Machine X E) (until : ℕ) (kept : KeyValue → Bool) (w : World X E) (n k : ℕ)
+        → after m until kept w (k + n) ≡ after m until kept (after m until kept w n) k }
+{}
+
+/// A run to a smaller end passes through the same worlds, by the same events, until it is over.
+pub fn longer_runs_begin_alike<X, E>()
+    ensures events { (m : Machine X E) (until later : ℕ) (kept : KeyValue → Bool) (w : World X E) → until ≤ later
+        → (n : ℕ) (e : E) → event m until kept w n ≡ Some e → event m later kept w n ≡ Some e }
+    ensures worlds { (m : Machine X E) (until later : ℕ) (kept : KeyValue → Bool) (w : World X E) → until ≤ later
+        → (n : ℕ) (e : E) → event m until kept w n ≡ Some e → after m later kept w (suc n) ≡ after m until kept w (suc n) }
+{}
