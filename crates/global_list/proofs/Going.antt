@@ -1,8 +1,8 @@
 -- One step of the list is one step of the run, and what holds along it.
-use Rattle.std.proofs.Common.{◌≡◌, ℕ, ◌+◌, ◌<◌, ◌≤◌, true, false, nat_le, List, [], ◌∷◌, ◌++◌, length, refl, sym, ap, ◌∙◌, subst, inl, inr, arith, Option, Some, None, is_some, slice_get, slice_set, add-one, option_map, length-append}
+use Rattle.std.proofs.Common.{◌≡◌, ℕ, ◌+◌, ◌-◌, ◌^◌, ◌<◌, ◌≤◌, true, false, nat_eq, nat_le, List, filter, [], ◌∷◌, ◌++◌, length, refl, sym, ap, ◌∙◌, subst, inl, inr, arith, Option, Some, None, is_some, slice_get, slice_set, add-one, option_map, length-append}
 use Rattle.std.specs.List.{flat_map}
 use Rattle.std.proofs.lemmas.Grind.{common_steps}
-use Rattle.event_order.specs.Pending.{put_all}
+use Rattle.event_order.specs.Pending.{Among, put_all}
 use Rattle.event_order.proofs.Pending.{test_cases}
 use Rattle.event_order.specs.Machine.{World, option_list, due, stepped, executed, after, event, all_kept}
 use Rattle.ssf_model.specs.declared.event.Event.{Event}
@@ -13,16 +13,21 @@ use Rattle.ssf_model.specs.declared.process.Process.{Process}
 use Rattle.ssf_model.specs.declared.entity.Entity.{Entity}
 use Rattle.ssf_model.specs.declared.plan.Mapping.{Mapping}
 use Rattle.ssf_model.specs.declared.plan.Plan.{Plan}
-use Rattle.ssf_model.specs.Reaction.{Reaction, Validity, KeepsValid, LatestTime}
+use Rattle.ssf_model.specs.Reaction.{Reaction, Validity, KeepsValid, LatestTime, Each}
 use Rattle.ssf_model.specs.Deliver.{IsModest}
 use Rattle.ssf_model.specs.Channels.{Sent, sent, delivered_to, entity_after, sent_by, counted}
-use Rattle.ssf_model.specs.Run.{States, counts_of, acts_at, writes_at, machine_of, opening}
+use Rattle.ssf_model.specs.Run.{States, Fits, counts_of, acts_at, writes_at, machine_of, opening, timers_of}
 use Rattle.global_list.specs.Pending.{key_of}
-use Rattle.global_list.specs.Posting.{IsPosted}
-use Rattle.global_list.specs.Healthy.{IsHealthy}
+use Rattle.run_laws.specs.Healthy.{MostTicket, IsHealthy, spent_by}
+use Rattle.run_laws.proofs.Lists.{each_all, each_of, place_of}
+use Rattle.run_laws.proofs.Delivers.{given_timely}
+use Rattle.run_laws.proofs.Writers.{writer_low}
+use Rattle.run_laws.proofs.Healths.{given, fine_sent, few_sent}
+use Rattle.run_laws.proofs.Along.{healthy_along, all_aligned}
+use Rattle.run_laws.proofs.Shares.{share_length}
+use Rattle.global_list.specs.Posting.{IsSendable, IsPosted}
 use Rattle.ssf_model.specs.Run.{entry_at, entries_from}
 use Rattle.global_list.specs.Executed.{MostEvents, states_of, world_of, MayExecute, MayGoOn, IsExecuted, IsOneMore}
-use Rattle.global_list.proofs.Healths.{keep_all, place_of, healthy_step, may_execute}
 
 le_true : (a b : ℕ) → nat_le a b ≡ true → a ≤ b
 le_true a b h = grind (arith, common_steps)
@@ -46,6 +51,46 @@ told_more told0 told1 t i h e = rw h (omega (arith, length-append told0 (t ∷ [
 pub none_of : {T : Type 0} (o : Option T) → is_some o ≡ false → o ≡ None
 none_of None h = refl
 none_of (Some x) h = absurd (cc)
+
+-- what holds of each element by its being in the list
+each_sent : {T : Type 0} (Q : T → Type 0) (xs : List T) → ((x : T) → Among x xs → Q x) → Each Q xs
+each_sent Q [] f = tt
+each_sent Q (x ∷ xs) f = (f x (inl refl), each_sent Q xs (λ y a. f y (inr a)))
+
+keep_all : {T : Type 0} (xs : List T) → filter (λ d. true) xs ≡ xs
+keep_all [] = refl
+keep_all (x ∷ xs) = ap (λ ys. x ∷ ys) (keep_all xs)
+
+-- an event of a healthy world can be executed where its timeline has executed few events
+may_execute : {B S P : Type 0} (r : Reaction S P) (valid : Validity S) (carried : P → Type 0) (law : KeepsValid valid carried r) (modest : IsModest valid carried r)
+    (plan : Plan B S P) (fits : Fits valid carried plan) (spent : ℕ → ℕ) (few : (k : ℕ) → spent k < MostEvents) (es : List (Entity B S P)) (cs : List ℕ) (e : Event P) (rest : List (Event P))
+    (en : Entity B S P) (at : slice_get es e.entity ≡ Some en) (in_time : e.key.time ≤ LatestTime) (healthy : IsHealthy valid carried plan spent (world_of es cs (e ∷ rest))) →
+    length cs ≡ length plan.counts → MayExecute valid r plan.mappings e es cs rest
+may_execute {B} {S} {P} r valid carried law modest plan fits spent few es cs e rest en at in_time healthy size =
+    let x : States B S P = states_of es cs in
+    let first = healthy.pending e (inl refl) in
+    let own = healthy.entities e.entity en at in
+    let low = few e.entity in
+    let fine = fine_sent r valid carried law modest plan fits.wired spent x e rest en at in_time healthy in
+    let all : length cs ≡ length plan.entities + length (timers_of plan.entities) + length plan.mappings = size ∙ fits.opened.size in
+    record {
+      entity = en;
+      at = at;
+      within = first.entity;
+      is_valid = own.is_valid;
+      timely = given_timely e.kind en.processes (given r valid carried law modest plan fits.wired spent x e rest en at in_time healthy);
+      tickets = each_all (λ (p : Process). p.ticket < 2 ^ 64 - 1) en.processes
+          (each_of (λ (p : Process). p.ticket ≤ MostTicket + spent e.entity) (λ (p : Process). p.ticket < 2 ^ 64 - 1) en.processes (λ p q. omega arith) own.tickets);
+      time = in_time;
+      may = record {
+        time = in_time;
+        round = omega (arith, first.round);
+        sendable = each_sent (IsSendable (length cs)) (sent_by r plan.mappings e en)
+            (λ s a. record { channel = let low = writer_low plan fits.wired e.entity s.channel (fine s a).writer in omega arith; delay = (fine s a).delay });
+        room = λ s a. omega (arith, healthy.counts e.entity s.channel (fine s a).writer, few_sent r valid carried law modest plan fits.wired spent x e rest en at in_time healthy s.channel);
+        told = λ d a. (healthy.pending d (inr a)).number;
+      };
+    }
 
 module _ {B S P : Type 0} (r : Reaction S P) (ms : List Mapping) (until : ℕ) where
   abbrev pub step_of : (x : States B S P) (e : Event P) (rest : List (Event P)) → World (States B S P) (Event P)
@@ -76,33 +121,22 @@ module _ {B S P : Type 0} (r : Reaction S P) (ms : List Mapping) (until : ℕ) w
       ∙ (ap (λ (ps : List (Event P)). let v : World (States B S P) (Event P) = record { state = acts_at r ms (states_of es0 c0) e (slice_get es0 e.entity); pending = ps } in v) q.pending
       ∙ sym (stepped_is (states_of es0 c0) p0 e rest is d))
 
-  module _ (valid : Validity S) (carried : P → Type 0) (law : KeepsValid valid carried r) (modest : IsModest valid carried r) (in_time : until ≤ LatestTime) where
-    step_healthy : (channels n : ℕ) (x : States B S P) (e : Event P) (rest : List (Event P)) → e.key.time ≤ until →
-        IsHealthy valid carried ms channels n (record { state = x; pending = e ∷ rest }) → IsHealthy valid carried ms channels (n + 1) (step_of x e rest)
-    step_healthy channels n x e rest t h =
-        let place = place_of x.entities e.entity ((h.pending e (inl refl)).entity) in
-        rw place.1 (healthy_step valid carried r law modest ms channels n x.entities x.counts e rest place.0 place.1 (omega (arith, t, in_time)) h)
-
-    pub stepped_healthy : (channels n : ℕ) (x : States B S P) (ps : List (Event P)) (e : Event P) → due key_of until ps ≡ Some e →
-        IsHealthy valid carried ms channels n (record { state = x; pending = ps }) →
-        IsHealthy valid carried ms channels (n + 1) (stepped (machine_of r ms) until all_kept x ps)
-    stepped_healthy channels n x [] e d h = absurd (cc)
-    stepped_healthy channels n x (b ∷ bs) e d h =
-        let f = due_first until b e bs d in
-        let is : b ∷ bs ≡ e ∷ bs = ap (λ c. c ∷ bs) f.same in
-        let g : IsHealthy valid carried ms channels n (record { state = x; pending = e ∷ bs }) =
-        subst (λ (c : Event P). IsHealthy valid carried ms channels n (record { state = x; pending = c ∷ bs })) f.same h in
-        rw (stepped_is x (b ∷ bs) e bs is d) (step_healthy channels n x e bs f.in_time g)
-
+  module _ (valid : Validity S) (carried : P → Type 0) (law : KeepsValid valid carried r) (modest : IsModest valid carried r) where
+    -- the event that is due can be executed
     pub may_next : (es : List (Entity B S P)) (cs : List ℕ) (ps rest : List (Event P)) (e : Event P) → ps ≡ e ∷ rest → due key_of until ps ≡ Some e →
-        MayGoOn valid carried ms until es cs ps → MayExecute valid r ms e es cs rest
+        MayGoOn valid carried r ms until es cs ps → MayExecute valid r ms e es cs rest
     may_next es cs ps rest e is d go =
-        let h : IsHealthy valid carried ms (length cs) go.n (world_of es cs (e ∷ rest)) =
-        subst (λ (qs : List (Event P)). IsHealthy valid carried ms (length cs) go.n (world_of es cs qs)) is go.healthy in
         let here : due key_of until (e ∷ rest) ≡ Some e = subst (λ qs. due key_of until qs ≡ Some e) is d in
         let first = due_first until e e rest here in
-        let place = place_of es e.entity ((h.pending e (inl refl)).entity) in
-        may_execute valid carried r law modest ms (length cs) go.n es (counts_of cs) e rest place.0 place.1 (omega (arith, first.in_time, in_time)) h cs refl refl go.few
+        let spent : ℕ → ℕ = spent_by r go.plan until all_kept (λ k. 0) go.n in
+        let along = healthy_along r valid carried law modest go.plan until go.until go.fits all_kept (λ k. 0)
+        (all_aligned r valid carried law modest go.plan until go.until go.fits all_kept go.plan.mappings) go.n in
+        let healthy : IsHealthy valid carried go.plan spent (world_of es cs (e ∷ rest)) =
+        subst (λ (qs : List (Event P)). IsHealthy valid carried go.plan spent (world_of es cs qs)) is
+        (subst (λ (w : World (States B S P) (Event P)). IsHealthy valid carried go.plan spent w) (sym go.world) along) in
+        let few : (k : ℕ) → spent k < MostEvents = λ k. omega (arith, go.few, share_length (machine_of {B = B} r go.plan.mappings) until all_kept (opening go.plan) (λ d. nat_eq 0 0) go.n) in
+        let place = place_of es e.entity ((healthy.pending e (inl refl)).entity) in
+        rw go.same (may_execute r valid carried law modest go.plan go.fits spent few es cs e rest place.0 place.1 (omega (arith, first.in_time, go.until)) healthy go.size)
 
   -- ---- the code's steps
 
@@ -132,9 +166,8 @@ module _ {B S P : Type 0} (r : Reaction S P) (ms : List Mapping) (until : ℕ) w
   -- ---- the loop
 
   -- after i events from the world w on
-  pub record Running (valid : Validity S) (carried : P → Type 0) (w : World (States B S P) (Event P)) (i : ℕ) (es : List (Entity B S P)) (cs : List ℕ) (ps : List (Event P)) (told : List Entry) : Type 0 where
+  pub record Running (w : World (States B S P) (Event P)) (i : ℕ) (es : List (Entity B S P)) (cs : List ℕ) (ps : List (Event P)) (told : List Entry) : Type 0 where
     pub world : world_of es cs ps ≡ after (machine_of r ms) until all_kept w i
-    pub healthy : IsHealthy valid carried ms (length cs) i (world_of es cs ps)
     pub entries : told ≡ entries_from r ms until all_kept w i
     pub count : length told ≡ i
 
@@ -146,33 +179,27 @@ module _ {B S P : Type 0} (r : Reaction S P) (ms : List Mapping) (until : ℕ) w
       world_of es cs ps ≡ after (machine_of r ms) until all_kept w i → event (machine_of r ms) until all_kept w i ≡ due key_of until ps
   event_is w i es cs ps h = due_is (after (machine_of r ms) until all_kept w i) ∙ ap (λ (v : World (States B S P) (Event P)). due key_of until v.pending) (sym h)
 
-  pub running_first : (valid : Validity S) (carried : P → Type 0) (es : List (Entity B S P)) (cs : List ℕ) (ps : List (Event P)) (told : List Entry) →
-      IsHealthy valid carried ms (length cs) 0 (world_of es cs ps) → told ≡ [] → Running valid carried (world_of es cs ps) 0 es cs ps told
-  running_first valid carried es cs ps told h e = record { world = refl; healthy = h; entries = e; count = rw e refl }
+  pub running_opened : (plan : Plan B S P) (es : List (Entity B S P)) (cs : List ℕ) (ps : List (Event P)) (told : List Entry) →
+      es ≡ plan.entities → cs ≡ plan.counts → ps ≡ plan.events → told ≡ [] → Running (opening plan) 0 es cs ps told
+  running_opened plan es cs ps told a b c e = record { world = rw (a, b, c) refl; entries = e; count = rw e refl }
 
-  pub running_opened : (valid : Validity S) (carried : P → Type 0) (plan : Plan B S P) (es : List (Entity B S P)) (cs : List ℕ) (ps : List (Event P)) (told : List Entry) →
-      IsHealthy valid carried ms (length plan.counts) 0 (opening plan) → es ≡ plan.entities → cs ≡ plan.counts → ps ≡ plan.events → told ≡ [] →
-      Running valid carried (opening plan) 0 es cs ps told
-  running_opened valid carried plan es cs ps told h a b c e =
-      rw (a, b, c) (running_first valid carried plan.entities plan.counts plan.events told h e)
-
-  pub may_go : (valid : Validity S) (carried : P → Type 0) (in_time : until ≤ LatestTime) (w : World (States B S P) (Event P)) (i : ℕ) (es : List (Entity B S P)) (cs : List ℕ) (ps : List (Event P)) (told : List Entry) →
-      i < MostEvents → Running valid carried w i es cs ps told → MayGoOn valid carried ms until es cs ps
-  may_go valid carried in_time w i es cs ps told few s = record { n = i; few = few; until = in_time; healthy = s.healthy }
-
-  pub running_next : (valid : Validity S) (carried : P → Type 0) (law : KeepsValid valid carried r) (modest : IsModest valid carried r) (in_time : until ≤ LatestTime)
-      (w : World (States B S P) (Event P)) (i : ℕ) (es0 es1 : List (Entity B S P)) (c0 c1 : List ℕ) (p0 p1 : List (Event P)) (told0 told1 : List Entry) →
-      Running valid carried w i es0 c0 p0 told0 → IsOneMore r ms until (world_of es0 c0 p0) (world_of es1 c1 p1) told0 told1 → length c1 ≡ length c0 →
-      Running valid carried w (i + 1) es1 c1 p1 told1
-  running_next valid carried law modest in_time w i es0 es1 c0 c1 p0 p1 told0 told1 s q size =
+  pub running_next : (w : World (States B S P) (Event P)) (i : ℕ) (es0 es1 : List (Entity B S P)) (c0 c1 : List ℕ) (p0 p1 : List (Event P)) (told0 told1 : List Entry) →
+      Running w i es0 c0 p0 told0 → IsOneMore r ms until (world_of es0 c0 p0) (world_of es1 c1 p1) told0 told1 → Running w (i + 1) es1 c1 p1 told1
+  running_next w i es0 es1 c0 c1 p0 p1 told0 told1 s q =
       let v = after (machine_of r ms) until all_kept w i in
       let here : world_of es0 c0 p0 ≡ v = s.world in
       record {
         world = rw add-one (q.world ∙ ap (λ (x : World (States B S P) (Event P)). stepped (machine_of r ms) until all_kept x.state x.pending) here);
-        healthy = rw (size, q.world) (stepped_healthy valid carried law modest in_time (length c0) i (states_of es0 c0) p0 q.event q.is_due s.healthy);
         entries = rw add-one (q.entries ∙ (ap (λ (ts : List Entry). ts ++ entry_at r es0 q.event ∷ []) s.entries
             ∙ sym (ap (λ (o : Option Entry). entries_from r ms until all_kept w i ++ option_list o)
             (ap (λ (o : Option (Event P)). option_map (entry_at r v.state.entities) o) (event_is w i es0 c0 p0 here ∙ q.is_due)
             ∙ ap (λ (x : World (States B S P) (Event P)). Some (entry_at r x.state.entities q.event)) (sym here)))));
         count = told_more told0 told1 (entry_at r es0 q.event) i q.entries s.count;
       }
+
+-- the list of a plan that fits can go on
+pub may_go : {B S P : Type 0} (r : Reaction S P) (valid : Validity S) (carried : P → Type 0) (plan : Plan B S P) (until i : ℕ) → Fits valid carried plan → until ≤ LatestTime → i < MostEvents →
+    (ms : List Mapping) (es : List (Entity B S P)) (cs : List ℕ) (ps : List (Event P)) (told : List Entry) → ms ≡ plan.mappings → length cs ≡ length plan.counts →
+    Running r plan.mappings until (opening plan) i es cs ps told → MayGoOn valid carried r ms until es cs ps
+may_go r valid carried plan until i fits in_time few ms es cs ps told same size s =
+    record { plan = plan; fits = fits; same = same; size = size; n = i; few = few; until = in_time; world = s.world }

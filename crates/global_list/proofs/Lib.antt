@@ -1,9 +1,5 @@
 pub mod Keyed
 pub mod Posts
-pub mod Delivers
 pub mod FanOuts
-pub mod Sends
-pub mod Healths
 pub mod Cuts
 pub mod Going
-pub mod Fitting

@@ -1,5 +1,5 @@
 -- What is sent part by part.
-use Rattle.std.proofs.Common.{◌≡◌, ℕ, ◌+◌, ◌<◌, Bool, true, false, cond, List, [], ◌∷◌, ◌++◌, length, refl, sym, ap, ◌∙◌, subst, inl, inr, arith, count_by, append-nil, get_or, take, drop, add-one, drop-cons}
+use Rattle.std.proofs.Common.{◌≡◌, ℕ, ◌+◌, ◌^◌, ◌<◌, Bool, true, false, cond, List, [], ◌∷◌, ◌++◌, length, refl, sym, ap, ◌∙◌, subst, inl, inr, arith, count_by, append-nil, get_or, take, drop, add-one, drop-cons, eq-eqb}
 use Rattle.std.specs.List.{flat_map}
 use Rattle.std.proofs.lemmas.Grind.{flat_map-append}
 use Rattle.std.proofs.lemmas.List.{take_more}
@@ -8,40 +8,16 @@ use Rattle.std.proofs.lemmas.Grind.{common_steps}
 use Rattle.event_order.specs.declared.key.Key.{Key}
 use Rattle.event_order.specs.Order.{child_of}
 use Rattle.event_order.specs.Pending.{put, put_all, Among}
-use Rattle.event_order.proofs.Pending.{put_all_among}
+use Rattle.event_order.proofs.Pending.{put_all_among, among_append_left, among_append_right}
 use Rattle.ssf_model.specs.declared.event.Event.{Event}
 use Rattle.ssf_model.specs.Reaction.{Each}
 use Rattle.ssf_model.specs.Channels.{Sent, raised, counted, numbered}
 use Rattle.ssf_model.specs.Run.{counts_of}
 use Rattle.global_list.specs.Pending.{key_of}
-use Rattle.global_list.specs.Posting.{is_on, IsSendable, MayPost, IsPosted}
-
--- ---- lists in two parts
-
-pub each_first : {T : Type 0} (Q : T → Type 0) (xs ys : List T) → Each Q (xs ++ ys) → Each Q xs
-each_first Q [] ys e = tt
-each_first Q (x ∷ xs) ys e = (e.0, each_first Q xs ys e.1)
-
-pub each_rest : {T : Type 0} (Q : T → Type 0) (xs ys : List T) → Each Q (xs ++ ys) → Each Q ys
-each_rest Q [] ys e = e
-each_rest Q (x ∷ xs) ys e = each_rest Q xs ys e.1
-
-pub each_append : {T : Type 0} (Q : T → Type 0) (xs ys : List T) → Each Q xs → Each Q ys → Each Q (xs ++ ys)
-each_append Q [] ys e f = f
-each_append Q (x ∷ xs) ys e f = (e.0, each_append Q xs ys e.1 f)
-
-pub count_append : {T : Type 0} (p : T → Bool) (xs ys : List T) → count_by p (xs ++ ys) ≡ count_by p xs + count_by p ys
-count_append p [] ys = omega arith
-count_append p (x ∷ xs) ys = let h = count_append p xs ys in grind (arith, common_steps)
-
-pub count_cons : {T : Type 0} (p : T → Bool) (x : T) (xs : List T) → count_by p (x ∷ xs) ≡ cond (p x) 1 0 + count_by p xs
-count_cons p x xs = grind (arith, common_steps)
-
-pub count_yes : {T : Type 0} (p : T → Bool) (x : T) (xs : List T) → p x ≡ true → count_by p (x ∷ xs) ≡ 1 + count_by p xs
-count_yes p x xs h = count_cons p x xs ∙ rw h refl
-
-pub count_no : {T : Type 0} (p : T → Bool) (x : T) (xs : List T) → p x ≡ false → count_by p (x ∷ xs) ≡ count_by p xs
-count_no p x xs h = count_cons p x xs ∙ rw h (omega arith)
+use Rattle.run_laws.specs.Writes.{is_on}
+use Rattle.run_laws.proofs.Lists.{each_first, each_rest, count_append, count_yes}
+use Rattle.run_laws.proofs.Counts.{counted_is, numbered_told}
+use Rattle.global_list.specs.Posting.{IsSendable, MayPost, IsPosted}
 
 put_all_append : {T : Type 0} (key : T → Key) (xs ys zs : List T) → put_all key (xs ++ ys) zs ≡ put_all key ys (put_all key xs zs)
 put_all_append key [] ys zs = refl
@@ -57,27 +33,6 @@ module _ {P : Type 0} where
   numbered_append key counts (s ∷ ss) ts =
       ap (λ (es : List (Event P)). record { key = child_of key s.delay s.priority s.channel (counts s.channel); entity = s.entity; kind = s.kind } ∷ es)
       (numbered_append key (raised counts s.channel) ss ts)
-
-  -- ---- counts
-
-  raised_at : (counts : ℕ → ℕ) (s : Sent P) (c : ℕ) → raised counts s.channel c ≡ counts c + cond (is_on c s) 1 0
-  raised_at counts s c = grind (arith, common_steps)
-
-  -- a count after these is the count before and how many of them are on that channel
-  pub counted_is : (counts : ℕ → ℕ) (ss : List (Sent P)) (c : ℕ) → counted counts ss c ≡ counts c + count_by (is_on c) ss
-  counted_is counts [] c = omega arith
-  counted_is counts (s ∷ ss) c = counted_is (raised counts s.channel) ss c ∙ (let h = raised_at counts s c in grind (arith, common_steps))
-
-  -- the number of each new event is one that its channel's count has passed
-  pub numbered_told : (key : Key) (counts : ℕ → ℕ) (ss : List (Sent P)) (d : Event P) → Among d (numbered key counts ss) → d.key.number < counted counts ss d.key.channel
-  numbered_told key counts [] d a = absurd a
-  numbered_told key counts (s ∷ ss) d (inl e) =
-      let own : d.key.number ≡ counts s.channel = ap (λ (x : Event P). x.key.number) e in
-      let on : d.key.channel ≡ s.channel = ap (λ (x : Event P). x.key.channel) e in
-      let now = counted_is (raised counts s.channel) ss s.channel in
-      let up : raised counts s.channel s.channel ≡ counts s.channel + 1 = grind (arith, common_steps) in
-      rw on (omega arith)
-  numbered_told key counts (s ∷ ss) d (inr a) = numbered_told key (raised counts s.channel) ss d a
 
   -- ---- parts of what is sent
 
@@ -95,12 +50,19 @@ module _ {P : Type 0} where
         ∙ ap (λ es. put_all key_of es p0) (sym (numbered_append parent (counts_of c0) ss ts)))));
   }
 
+  -- room for one
+  pub one_room : (parent : Key) (s : Sent P) (c : List ℕ) (p : List (Event P)) → MayPost parent (s ∷ []) c p → counts_of c s.channel + 1 < 2 ^ 64
+  one_room parent s c p m =
+      let room = m.room s (inl refl) in
+      let one = count_yes (is_on s.channel) s [] (eq-eqb s.channel s.channel refl) in
+      omega arith
+
   pub may_first : (parent : Key) (ss ts : List (Sent P)) (c : List ℕ) (p : List (Event P)) → MayPost parent (ss ++ ts) c p → MayPost parent ss c p
   may_first parent ss ts c p m = record {
     time = m.time;
     round = m.round;
     sendable = each_first (IsSendable (length c)) ss ts m.sendable;
-    room = λ k. let all = m.room k in omega (arith, count_append (is_on k) ss ts);
+    room = λ s a. let all = m.room s (among_append_left s ss ts a) in omega (arith, count_append (is_on s.channel) ss ts);
     told = m.told;
   }
 
@@ -119,7 +81,7 @@ module _ {P : Type 0} where
     time = m.time;
     round = m.round;
     sendable = rw q.size (each_rest (IsSendable (length c)) ss ts m.sendable);
-    room = λ k. let all = m.room k in let now : counts_of c' k ≡ counted (counts_of c) ss k = ap (λ (f : ℕ → ℕ). f k) q.counts in
+    room = λ s a. let k : ℕ = s.channel in let all = m.room s (among_append_right s ss ts a) in let now : counts_of c' k ≡ counted (counts_of c) ss k = ap (λ (f : ℕ → ℕ). f k) q.counts in
         omega (arith, count_append (is_on k) ss ts, counted_is (counts_of c) ss k);
     told = posted_told parent ss c c' p p' m.told q;
   }

@@ -8,14 +8,14 @@ use Rattle.ssf_model.specs.declared.event.Entry.{Entry}
 use Rattle.ssf_model.specs.declared.process.Process.{Process}
 use Rattle.ssf_model.specs.declared.entity.Entity.{Entity}
 use Rattle.ssf_model.specs.declared.plan.Mapping.{Mapping}
+use Rattle.ssf_model.specs.declared.plan.Plan.{Plan}
 use Rattle.ssf_model.specs.Reaction.{Reaction, Validity, LatestTime}
 use Rattle.ssf_model.specs.Deliver.{IsTimely}
 use Rattle.ssf_model.specs.Entities.{IsValidEntity}
 use Rattle.ssf_model.specs.Channels.{sent_by}
-use Rattle.ssf_model.specs.Run.{States, counts_of, acts_at, writes_at, machine_of}
+use Rattle.ssf_model.specs.Run.{States, counts_of, acts_at, writes_at, machine_of, world_after, Fits}
 use Rattle.global_list.specs.Pending.{key_of}
 use Rattle.global_list.specs.Posting.{MayPost}
-use Rattle.global_list.specs.Healthy.{IsHealthy}
 use Rattle.ssf_model.specs.Run.{entry_at}
 
 -- the most events that are executed
@@ -47,12 +47,16 @@ pub record IsExecuted {B S P : Type 0} (r : Reaction S P) (mappings : List Mappi
   pub entry : told ≡ entry_at r es0 e
   pub size : length c1 ≡ length c0
 
--- the run can go on after n events
-pub record MayGoOn {B S P : Type 0} (valid : Validity S) (carried : P → Type 0) (mappings : List Mapping) (last : ℕ) (entities : List (Entity B S P)) (counts : List ℕ) (pending : List (Event P)) : Type 0 where
+-- the list stands after n events of the run of a plan that fits, and can go on
+pub record MayGoOn {B S P : Type 0} (valid : Validity S) (carried : P → Type 0) (r : Reaction S P) (mappings : List Mapping) (last : ℕ) (entities : List (Entity B S P)) (counts : List ℕ) (pending : List (Event P)) : Type 0 where
+  pub plan : Plan B S P
+  pub fits : Fits valid carried plan
+  pub same : mappings ≡ plan.mappings
+  pub size : length counts ≡ length plan.counts
   pub n : ℕ
   pub few : n < MostEvents
   pub until : last ≤ LatestTime
-  pub healthy : IsHealthy valid carried mappings (length counts) n (world_of entities counts pending)
+  pub world : world_of entities counts pending ≡ world_after r plan last all_kept n
 
 -- one more event was executed, and its entry added to the list
 pub record IsOneMore {B S P : Type 0} (r : Reaction S P) (mappings : List Mapping) (until : ℕ) (w0 w1 : World (States B S P) (Event P)) (told0 told1 : List Entry) : Type 0 where

@@ -1,28 +1,26 @@
 -- How what an event sends becomes pending and is counted.
-use Rattle.std.specs.Prelude.{◌≡◌, ℕ, ◌+◌, ◌*◌, ◌^◌, ◌<◌, ◌≤◌, Bool, nat_eq, List, length, count_by}
+use Rattle.std.specs.Prelude.{◌≡◌, ℕ, ◌+◌, ◌*◌, ◌^◌, ◌<◌, ◌≤◌, List, length, count_by}
 use Rattle.event_order.specs.declared.key.Key.{Key}
 use Rattle.event_order.specs.Pending.{Among, put_all}
 use Rattle.ssf_model.specs.declared.event.Event.{Event}
 use Rattle.ssf_model.specs.Reaction.{LatestTime, LongestDelay, Each}
 use Rattle.ssf_model.specs.Channels.{Sent, counted, numbered}
 use Rattle.ssf_model.specs.Run.{counts_of}
+use Rattle.run_laws.specs.Writes.{is_on}
 use Rattle.global_list.specs.Pending.{key_of}
-
--- the test that this is sent on a channel
-abbrev pub is_on : {P : Type 0} → ℕ → Sent P → Bool
-is_on c s = nat_eq s.channel c
 
 -- what is sent goes on a channel that there is, after a delay in range
 pub record IsSendable {P : Type 0} (channels : ℕ) (s : Sent P) : Type 0 where
   pub channel : s.channel < channels
   pub delay : s.delay ≤ 2 * LongestDelay
 
--- these can be sent by an event with the key `parent`: all numbers stay in range, and their keys are new
+-- these can be sent by an event with the key `parent`: all numbers stay in range, those too that count the channels
+-- on which something is sent, and the keys are new
 pub record MayPost {P : Type 0} (parent : Key) (ss : List (Sent P)) (counts : List ℕ) (pending : List (Event P)) : Type 0 where
   pub time : parent.time ≤ LatestTime
   pub round : parent.round + 1 < 2 ^ 64
   pub sendable : Each (IsSendable (length counts)) ss
-  pub room : (c : ℕ) → counts_of counts c + count_by (is_on c) ss < 2 ^ 64
+  pub room : (s : Sent P) → Among s ss → counts_of counts s.channel + count_by (is_on s.channel) ss < 2 ^ 64
   pub told : (d : Event P) → Among d pending → d.key.number < counts_of counts d.key.channel
 
 -- these were sent by an event with the key `parent`: the counts and pending events before and after

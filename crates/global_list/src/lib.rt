@@ -1,10 +1,10 @@
 //! The one event list: the plain program of the definition of a run. It executes a plan's events
-//! one by one in the order of their keys.
+//! one by one in the order of their keys. That each of them can be executed, and that no number
+//! leaves its range, is what `run_laws` says of all runs.
 #![tactic(auto)]
 
 mod agenda;
 mod fan_out;
-pub mod laws;
 mod one_list;
 mod pending;
 mod single;

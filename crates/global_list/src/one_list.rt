@@ -62,7 +62,7 @@ impl<B: Behaviour> OneList<B> {
         until: u64,
         entries: &mut Vec<Entry>,
     ) -> Result<bool, Memory>
-        requires { MayGoOn (B.valid self.old.behaviour) (B.carried self.old.behaviour) self.old.fan_out until self.old.entities.items self.old.agenda.counts.items self.old.agenda.pending }
+        requires { MayGoOn (B.valid self.old.behaviour) (B.carried self.old.behaviour) (B.reaction self.old.behaviour) self.old.fan_out until self.old.entities.items self.old.agenda.counts.items self.old.agenda.pending }
         ensures next { IfOk result (λ more. MatchBool more
             (IsOneMore (B.reaction self.old.behaviour) self.old.fan_out until (world_of self.old.entities.items self.old.agenda.counts.items self.old.agenda.pending) (world_of self.new.entities.items self.new.agenda.counts.items self.new.agenda.pending) entries.old.items entries.new.items)
             (IsNoMore until (world_of self.old.entities.items self.old.agenda.counts.items self.old.agenda.pending) (world_of self.new.entities.items self.new.agenda.counts.items self.new.agenda.pending) entries.old.items entries.new.items)) }

@@ -3,10 +3,8 @@
 ghost use Rattle.std.specs.Prelude.{◌≡◌, ◌≤◌, ◌⊎◌, ℕ, [], length, IsSome, None};
 ghost use Rattle.event_order.specs.Machine.{within, all_kept};
 ghost use Rattle.ssf_model.specs.Reaction.{LatestTime};
-ghost use Rattle.ssf_model.specs.Run.{run_event};
-ghost use Rattle.ssf_model.specs.Run.{run_entries};
+ghost use Rattle.ssf_model.specs.Run.{Fits, run_event, run_entries};
 ghost use Rattle.global_list.specs.Executed.{MostEvents};
-ghost use Rattle.global_list.specs.Healthy.{IsRunnable};
 
 use crate::one_list::OneList;
 use sim_base::{ListOf, Memory};
@@ -39,7 +37,7 @@ pub struct Single {
 /// they are all of it, and `OverBudget` that there are `budget` of them and the run goes on. A run
 /// of more than `budget` events ends so, or for want of memory.
 pub fn run_single<B: Behaviour>(alloc: Global, plan: Plan<B>, until: u64, budget: u64) -> Single
-    requires plan { IsRunnable (B.valid plan.behaviour) (B.carried plan.behaviour) plan }
+    requires plan { Fits (B.valid plan.behaviour) (B.carried plan.behaviour) plan }
     requires until { until ≤ LatestTime }
     requires least { 1 ≤ budget }
     requires budget { budget ≤ MostEvents }
@@ -65,7 +63,7 @@ fn run<B: Behaviour>(
     budget: u64,
     entries: &mut Vec<Entry>,
 ) -> SingleEnd
-    requires plan { IsRunnable (B.valid plan.behaviour) (B.carried plan.behaviour) plan }
+    requires plan { Fits (B.valid plan.behaviour) (B.carried plan.behaviour) plan }
     requires until { until ≤ LatestTime }
     requires budget { budget ≤ MostEvents }
     requires none { entries.old.items ≡ [] }

@@ -5,7 +5,7 @@ ghost use Rattle.std.specs.List.{All};
 ghost use Rattle.ssf_model.specs.Drafts.{planned};
 ghost use Rattle.ring_model.specs.Reacting.{IsRing, AnyPayload};
 ghost use Rattle.ring_model.specs.Rings.{ring_draft, with_hops, ring_refusal};
-ghost use Rattle.global_list.specs.Healthy.{IsRunnable};
+ghost use Rattle.ssf_model.specs.Run.{Fits};
 ghost use Rattle.list_examples.specs.RingFaults.{IsCause, MostTokens};
 
 use ring_model::{Hop, Ring, ring_builder};
@@ -35,7 +35,7 @@ pub fn ring_plan(
     hops: &[Hop],
 ) -> Result<Plan<Ring>, RingFault>
     ensures made { IfOk result (λ plan. plan ≡ planned (with_hops (ring_draft (record {}) nodes tokens.now) hops.now)) }
-    ensures runs { IfOk result (λ plan. IsRunnable IsRing AnyPayload plan) }
+    ensures runs { IfOk result (λ plan. Fits IsRing AnyPayload plan) }
     ensures cause { IfErr result (λ fault. IsCause nodes tokens.now hops.now fault) }
 {
     if tokens.len() > MOST_TOKENS {
@@ -61,7 +61,7 @@ fn known_ring_plan(
     requires hops { All (λ h. (h.from < nodes) × (h.to < nodes)) hops.now }
     requires few { length tokens.now ≤ MostTokens }
     ensures made { IfOk result (λ plan. plan ≡ planned (with_hops (ring_draft (record {}) nodes tokens.now) hops.now)) }
-    ensures runs { IfOk result (λ plan. IsRunnable IsRing AnyPayload plan) }
+    ensures runs { IfOk result (λ plan. Fits IsRing AnyPayload plan) }
     ensures cause { IfErr result (λ fault. (fault ≡ BuildFault.Memory) ⊎ (ring_refusal (record {}) nodes tokens.now hops.now ≡ Some fault)) }
 {
     let builder = ring_builder(alloc, nodes, tokens, hops)?;

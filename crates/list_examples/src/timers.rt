@@ -3,7 +3,7 @@
 ghost use Rattle.std.specs.Prelude.{◌≡◌, ◌↔◌, ◌∷◌, [], ℕ, true, map, IfOk, IsTrue};
 ghost use Rattle.ssf_model.specs.Reaction.{is_timed};
 ghost use Rattle.ssf_model.specs.Drafts.{planned};
-ghost use Rattle.global_list.specs.Healthy.{IsRunnable};
+ghost use Rattle.ssf_model.specs.Run.{Fits};
 ghost use Rattle.list_examples.specs.Timers.{IsTicker, IsListener, AnySignal, ticker_draft, listener_draft};
 
 use sim_base::Memory;
@@ -165,7 +165,7 @@ impl Behaviour for Listener {
 /// A plan of one entity that ticks.
 pub fn ticker_plan(alloc: Global) -> Result<Plan<Ticker>, BuildFault>
     ensures made { IfOk result (λ plan. plan ≡ planned ticker_draft) }
-    ensures runs { IfOk result (λ plan. IsRunnable IsTicker AnySignal plan) }
+    ensures runs { IfOk result (λ plan. Fits IsTicker AnySignal plan) }
 {
     let mut builder = PlanBuilder::new(alloc, Ticker {})?;
     if let Err((_, fault)) = builder.entity(Idle {}, &[true]) {
@@ -178,7 +178,7 @@ pub fn ticker_plan(alloc: Global) -> Result<Plan<Ticker>, BuildFault>
 /// A plan of one entity with a listener, whose out-channel leads back to it without delay.
 pub fn listener_plan(alloc: Global) -> Result<Plan<Listener>, BuildFault>
     ensures made { IfOk result (λ plan. plan ≡ planned listener_draft) }
-    ensures runs { IfOk result (λ plan. IsRunnable IsListener AnySignal plan) }
+    ensures runs { IfOk result (λ plan. Fits IsListener AnySignal plan) }
 {
     let mut builder = PlanBuilder::new(alloc, Listener {})?;
     if let Err((_, fault)) = builder.entity(Idle {}, &[true, true]) {

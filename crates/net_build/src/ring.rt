@@ -4,7 +4,7 @@ ghost use Rattle.std.specs.List.{All, list_any, range_with_len};
 ghost use Rattle.dml_tree.specs.TreeView.{attributes};
 ghost use Rattle.net_graph.specs.Keys.{values_of, has_net};
 ghost use Rattle.ring_model.specs.Reacting.{IsRing, AnyPayload};
-ghost use Rattle.global_list.specs.Healthy.{IsRunnable};
+ghost use Rattle.ssf_model.specs.Run.{Fits};
 ghost use Rattle.net_build.specs.RingModel.{first_number, absent_number, tokens_in, hops_in, hop_of, is_long, build, built_of, ring_of, ring_plan_of, HasFewTokens, ring_counts_of};
 ghost use Rattle.net_build.specs.PlanText.{ring_text_of};
 
@@ -39,7 +39,7 @@ pub fn ring_plan(alloc: Global, tree: &Tree) -> Result<Built<Ring>, ShapeFault>
     requires model { has_net (attributes tree.now) ≡ false }
     requires few { HasFewTokens (attributes tree.now) }
     ensures built { IfOk result (λ built. ring_plan_of (attributes tree.now) ≡ Ok built) }
-    ensures runnable { IfOk result (λ built. IsRunnable IsRing AnyPayload built.plan) }
+    ensures runnable { IfOk result (λ built. Fits IsRing AnyPayload built.plan) }
     ensures named { IfOk result (λ built. length built.names.names ≡ length built.plan.entities) }
     ensures cause { IfErr result (λ fault. (fault ≡ ShapeFault.Memory) ⊎ (ring_plan_of (attributes tree.now) ≡ Err fault)) }
 {
@@ -161,7 +161,7 @@ fn build_ring(
     requires few { length tokens.now ≤ 4194304 }
     requires hops { All (λ h. (h.from < nodes) × (h.to < nodes)) hops.now }
     ensures built { IfOk result (λ built. build (record { nodes = nodes; tokens = tokens.now; hops = hops.now }) ≡ Ok built) }
-    ensures runnable { IfOk result (λ built. IsRunnable IsRing AnyPayload built.plan) }
+    ensures runnable { IfOk result (λ built. Fits IsRing AnyPayload built.plan) }
     ensures named { IfOk result (λ built. length built.names.names ≡ length built.plan.entities) }
     ensures cause { IfErr result (λ fault. (fault ≡ ShapeFault.Memory) ⊎ (build (record { nodes = nodes; tokens = tokens.now; hops = hops.now }) ≡ Err fault)) }
 {

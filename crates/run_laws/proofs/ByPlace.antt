@@ -1,76 +1,128 @@
 -- The writes of a run on one channel have its numbers in a row, whether the cut keeps them or not.
-use Rattle.std.proofs.Common.{ℕ, zero, suc, ◌≡◌, ◌⊎◌, ◌+◌, ◌<◌, ◌≤◌, ◌∙◌, sym, ap, subst, refl, inl, inr, Bool, true, false, nat_eq, List, [], ◌∷◌, ◌++◌, length, Option, Some, None, slice_get, arith, zero-add, suc-add, length-append}
+use Rattle.std.proofs.Common.{ℕ, zero, suc, ◌≡◌, ◌⊎◌, ◌+◌, ◌<◌, ◌≤◌, ◌∙◌, sym, ap, subst, refl, inl, inr, Bool, true, false, nat_eq, List, [], ◌∷◌, ◌++◌, length, Option, Some, None, slice_get, arith, zero-add, suc-add, append-nil, length-append, eqb-true, eq-eqb}
 use Rattle.std.specs.List.{filter, flat_map}
 use Rattle.std.proofs.lemmas.List.Elements.{filter-append}
 use Rattle.std.proofs.lemmas.Bool.Decides.{nat_tests}
 use Rattle.event_order.specs.declared.key.Key.{Key}
 use Rattle.event_order.specs.Pending.{Among}
-use Rattle.event_order.proofs.Pending.{among_append_right, append_among, among_filter, filter_among}
+use Rattle.event_order.proofs.Pending.{test_cases, among_append_right, append_among, among_filter, filter_among}
 use Rattle.event_order.specs.Machine.{World, option_list}
-use Rattle.event_order.proofs.Steps.{step_cases}
+use Rattle.event_order.proofs.Steps.{step_cases, lt_or_ge, difference}
 use Rattle.ssf_model.specs.declared.event.Event.{Event}
-use Rattle.ssf_model.specs.declared.event.Parcel.{Parcel}
 use Rattle.ssf_model.specs.declared.entity.Entity.{Entity}
 use Rattle.ssf_model.specs.declared.plan.Plan.{Plan}
 use Rattle.ssf_model.specs.Reaction.{Reaction}
 use Rattle.ssf_model.specs.Channels.{Sent, sent_by, numbered, raised, counted}
-use Rattle.ssf_model.specs.Run.{States, acts_at, writes_at, machine_of, counts_of, run_event, world_after}
-use Rattle.ssf_model.specs.Truth.{writes_within, writes_on, is_on_channel, IsWrite, IsPromise, IsTrueParcel}
-use Rattle.run_laws.specs.Writes.{IsRunWrite}
+use Rattle.ssf_model.specs.Run.{States, acts_at, writes_at, machine_of, counts_of, world_after}
+use Rattle.ssf_model.specs.Scene.{Net, Scene, scene_of, world_at, event_at, time_of, channel_of}
+use Rattle.ssf_model.specs.Truth.{writes_within, writes_on, has_channel, IsWrite, IsRunWrite, IsStretch, IsPromise, IsTrueParcel}
+use Rattle.run_laws.proofs.Lists.{different, place_of, place_more, place_among, among_place}
+use Rattle.run_laws.proofs.Counts.{raised_same}
 
--- ---- lists
+-- ---- writes of any run
 
-place_more : {T : Type 0} (xs ys : List T) (i : ℕ) (x : T) → slice_get xs i ≡ Some x → slice_get (xs ++ ys) i ≡ Some x
-place_more [] ys i x h = absurd (cc)
-place_more (y ∷ xs) ys zero x h = h
-place_more (y ∷ xs) ys (suc i) x h = place_more xs ys i x h
+module _ {X E : Type 0} (s : Scene X E) where
+  -- what is in the list after some events is in it after more
+  later_more : (c n k m : ℕ) (d : E) → slice_get (writes_on s c n) k ≡ Some d → slice_get (writes_on s c (m + n)) k ≡ Some d
+  later_more c n k zero d h = rw zero-add h
+  later_more c n k (suc m) d h =
+      let joined = filter-append (has_channel s c) (writes_within s (m + n)) (flat_map (s.machine.writes (world_at s (m + n)).state) (option_list (event_at s (m + n)))) in
+      rw (suc-add, joined) (place_more _ _ k d (later_more c n k m d h))
 
-place_among : {T : Type 0} (xs : List T) (i : ℕ) (x : T) → slice_get xs i ≡ Some x → Among x xs
-place_among [] i x h = absurd (cc)
-place_among (y ∷ xs) zero x h = inl (cc)
-place_among (y ∷ xs) (suc i) x h = inr (place_among xs i x h)
+  pub one_write : (c k : ℕ) (d e : E) → IsWrite s c k d → IsWrite s c k e → d ≡ e
+  one_write c k d e first second =
+      let one = later_more c first.within k second.within d first.is in
+      let two = later_more c second.within k first.within e second.is in
+      let same : second.within + first.within ≡ first.within + second.within = omega arith in
+      let both : Some d ≡ Some e = sym one ∙ (ap (λ n. slice_get (writes_on s c n) k) same ∙ two) in
+      cc
 
-among_place : {T : Type 0} (x : T) (xs : List T) → Among x xs → (i : ℕ) × (slice_get xs i ≡ Some x)
-among_place x [] a = absurd a
-among_place x (y ∷ xs) (inl e) = (0, ap (λ z. Some z) (sym e))
-among_place x (y ∷ xs) (inr a) = let found = among_place x xs a in (suc found.0, found.1)
+  pub has_write : (d : E) → IsRunWrite s d → (k : ℕ) × IsWrite s (channel_of s d) k d
+  has_write d is =
+      let c = channel_of s d in
+      let told : Among d (flat_map (s.machine.writes (world_at s is.at).state) (option_list (event_at s is.at))) = rw (is.is, append-nil) is.written in
+      let all : Among d (writes_on s c (suc is.at)) = among_filter (has_channel s c) d (writes_within s (suc is.at)) (among_append_right d (writes_within s is.at) _ told) (eq-eqb c c refl) in
+      let found = among_place d _ all in
+      (found.0, record { within = suc is.at; is = found.1 })
 
-has_place : {T : Type 0} (xs : List T) (i : ℕ) → i < length xs → (x : T) × (slice_get xs i ≡ Some x)
-has_place [] i h = absurd (omega arith)
-has_place (x ∷ xs) zero h = (x, refl)
-has_place (x ∷ xs) (suc i) h = has_place xs i (omega arith)
+  -- a write by one event
+  by_event : (n : ℕ) (d : E) (o : Option E) → event_at s n ≡ o → Among d (flat_map (s.machine.writes (world_at s n).state) (option_list o)) → IsRunWrite s d
+  by_event n d None is a = absurd a
+  by_event n d (Some e) is a = record { at = n; by = e; is = is; written = subst (λ (ds : List E). Among d ds) (append-nil (s.machine.writes (world_at s n).state e)) a }
 
-append_none : {T : Type 0} (xs : List T) → xs ++ [] ≡ xs
-append_none [] = refl
-append_none (x ∷ xs) = ap (λ ys. x ∷ ys) (append_none xs)
+  by_some : (n : ℕ) (d : E) → Among d (writes_within s n) → IsRunWrite s d
+  by_some zero d a = absurd a
+  by_some (suc n) d a = elim (append_among d (writes_within s n) _ a) [ inl before ↦ by_some n d before | inr now ↦ by_event n d (event_at s n) refl now ]
 
-decides : (a b : ℕ) → (a ≡ b) ⊎ (a ≡ b → ⊥)
-decides zero zero = inl refl
-decides zero (suc b) = inr (λ e. omega arith)
-decides (suc a) zero = inr (λ e. omega arith)
-decides (suc a) (suc b) = elim (decides a b) [ inl e ↦ inl (ap (λ n. suc n) e) | inr apart ↦ inr (λ e. apart (omega arith)) ]
+  pub is_written : (c k : ℕ) (d : E) → IsWrite s c k d → IsRunWrite s d
+  is_written c k d is = by_some is.within d (filter_among (has_channel s c) d (writes_within s is.within) (place_among _ k d is.is)).among
 
-less_or : (a b : ℕ) → (a < b) ⊎ ((j : ℕ) × (a ≡ b + j))
-less_or a zero = inr (a, omega arith)
-less_or zero (suc b) = inl (omega arith)
-less_or (suc a) (suc b) = elim (less_or a b) [ inl l ↦ inl (omega arith) | inr h ↦ inr (h.0, omega (arith, h.1)) ]
+  pub write_channel : (c k : ℕ) (d : E) → IsWrite s c k d → channel_of s d ≡ c
+  write_channel c k d is = eqb-true (channel_of s d) c (filter_among (has_channel s c) d (writes_within s is.within) (place_among _ k d is.is)).passes
 
-test_same : (a b : ℕ) → a ≡ b → nat_eq a b ≡ true
-test_same a b e = grind (arith, nat_tests)
+  -- ---- stretches
+
+  pub stretch_length : (c first end : ℕ) (ds : List E) → IsStretch s c first ds end → end ≡ first + length ds
+  stretch_length c first end [] h = omega (arith, h)
+  stretch_length c first end (d ∷ ds) h = omega (arith, stretch_length c (suc first) end ds h.1)
+
+  pub stretch_at : (c first end : ℕ) (ds : List E) → IsStretch s c first ds end → (j : ℕ) (d : E) → slice_get ds j ≡ Some d → IsWrite s c (first + j) d
+  stretch_at c first end [] h j d at = absurd (cc)
+  stretch_at c first end (x ∷ ds) h zero d at =
+      let same : x ≡ d = cc in
+      let place : first ≡ first + 0 = omega arith in
+      subst (λ n. IsWrite s c n d) place (subst (λ y. IsWrite s c first y) same h.0)
+  stretch_at c first end (x ∷ ds) h (suc j) d at =
+      let place : suc first + j ≡ first + suc j = omega arith in
+      subst (λ n. IsWrite s c n d) place (stretch_at c (suc first) end ds h.1 j d at)
+
+  pub stretch_of : (c first : ℕ) (ds : List E) (end : ℕ) → end ≡ first + length ds → ((j : ℕ) (d : E) → slice_get ds j ≡ Some d → IsWrite s c (first + j) d) → IsStretch s c first ds end
+  stretch_of c first [] end long h = omega arith
+  stretch_of c first (x ∷ ds) end long h = (
+    (let place : first + 0 ≡ first = omega arith in subst (λ n. IsWrite s c n x) place (h 0 x refl)),
+    stretch_of c (suc first) ds end (omega arith) (λ j d at. let place : first + suc j ≡ suc first + j = omega arith in subst (λ n. IsWrite s c n d) place (h (suc j) d at)),
+  )
+
+  pub stretch_joined : (c first between end : ℕ) (xs ys : List E) → IsStretch s c first xs between → IsStretch s c between ys end → IsStretch s c first (xs ++ ys) end
+  stretch_joined c first between end [] ys a b = subst (λ n. IsStretch s c n ys end) (sym a) b
+  stretch_joined c first between end (x ∷ xs) ys a b = (a.0, stretch_joined c (suc first) between end xs ys a.1 b)
+
+  -- ---- parcels
+
+  pub parcels_agree : (c first end bound first' end' bound' : ℕ) (ds es : List E) → IsTrueParcel s c first ds end bound → IsTrueParcel s c first' es end' bound'
+      → (i j : ℕ) (d e : E) → first + i ≡ first' + j → slice_get ds i ≡ Some d → slice_get es j ≡ Some e → d ≡ e
+  parcels_agree c first end bound first' end' bound' ds es p q i j d e same at there =
+      one_write c (first + i) d e (stretch_at c first end ds p.events i d at) (subst (λ n. IsWrite s c n e) (sym same) (stretch_at c first' end' es q.events j e there))
+
+  pub parcel_whole : (c first end bound : ℕ) (ds : List E) → s.net.appointed c ≡ true → IsTrueParcel s c first ds end bound → (k : ℕ) (d : E) → IsWrite s c k d → time_of s d < bound
+      → (k < first) ⊎ Among d ds
+  parcel_whole c first end bound ds own is k d write early =
+      let below : k < end = is.promise own k d write early in
+      elim (lt_or_ge k first) [
+        | inl before ↦ inl before
+        | inr later ↦
+            let rest = difference first k later in
+            let place : rest.0 < length ds = omega (arith, rest.1, stretch_length c first end ds is.events) in
+            let there = place_of ds rest.0 place in
+            let held : IsWrite s c k there.0 = let sum : first + rest.0 ≡ k = omega (arith, rest.1) in subst (λ n. IsWrite s c n there.0) sum (stretch_at c first end ds is.events rest.0 there.0 there.1) in
+            inr (place_among ds rest.0 d (there.1 ∙ ap (λ z. Some z) (one_write c k there.0 d held write)))
+      ]
+
+-- ---- numbers
 
 test_apart : (a b : ℕ) → (a ≡ b → ⊥) → nat_eq a b ≡ false
 test_apart a b apart = grind (arith, nat_tests)
 
-same_of_test : (a b : ℕ) → nat_eq a b ≡ true → a ≡ b
-same_of_test a b e = grind (arith, nat_tests)
-
 raised_here : (c : ℕ) (counts : ℕ → ℕ) (channel : ℕ) → channel ≡ c → raised counts channel c ≡ counts c + 1
-raised_here c counts channel e = rw (test_same c channel (sym e)) refl
+raised_here c counts channel e = rw (eq-eqb c channel (sym e)) refl
 
 raised_else : (c : ℕ) (counts : ℕ → ℕ) (channel : ℕ) → (channel ≡ c → ⊥) → raised counts channel c ≡ counts c
 raised_else c counts channel apart = rw (test_apart c channel (λ e. apart (sym e))) refl
 
 module _ {P : Type 0} (c : ℕ) where
+  abbrev on : Event P → Bool
+  on d = nat_eq d.key.channel c
+
   -- events of channel c with the numbers from `first` on
   pub record IsRow (first : ℕ) (ds : List (Event P)) : Type 0 where
     pub channel : (k : ℕ) (d : Event P) → slice_get ds k ≡ Some d → d.key.channel ≡ c
@@ -105,8 +157,8 @@ module _ {P : Type 0} (c : ℕ) where
 
   -- some writes on channel c, of which it counted `before` earlier, and `after` with them
   pub record Counts (before after : ℕ) (ds : List (Event P)) : Type 0 where
-    pub row : IsRow before (filter (is_on_channel c) ds)
-    pub total : after ≡ before + length (filter (is_on_channel c) ds)
+    pub row : IsRow before (filter on ds)
+    pub total : after ≡ before + length (filter on ds)
 
   counts_none : (n : ℕ) → Counts n n []
   counts_none n = record { row = row_none n; total = omega arith }
@@ -115,35 +167,40 @@ module _ {P : Type 0} (c : ℕ) where
   numbered_counts key counts [] = counts_none (counts c)
   numbered_counts key counts (s ∷ ss) =
       let rest = numbered_counts key (raised counts s.channel) ss in
-      elim (decides s.channel c) [
-        | inl e ↦
+      elim (test_cases (nat_eq s.channel c)) [
+        | inl t ↦
+            let e : s.channel ≡ c = eqb-true s.channel c t in
             let up : raised counts s.channel c ≡ counts c + 1 = raised_here c counts s.channel e in
-            let row : IsRow (counts c + 1) (filter (is_on_channel c) (numbered key (raised counts s.channel) ss)) = subst (λ n. IsRow n (filter (is_on_channel c) (numbered key (raised counts s.channel) ss))) up rest.row in
+            let row : IsRow (counts c + 1) (filter on (numbered key (raised counts s.channel) ss)) = subst (λ n. IsRow n (filter on (numbered key (raised counts s.channel) ss))) up rest.row in
             let total = rest.total in
             record {
-              row = rw (test_same s.channel c e) (row_cons (counts c) _ _ e (ap counts e) row);
-              total = rw (test_same s.channel c e) (omega arith);
+              row = rw t (row_cons (counts c) _ _ e (ap counts e) row);
+              total = rw t (omega arith);
             }
-        | inr apart ↦
+        | inr f ↦
+            let apart = different s.channel c f in
             let same : raised counts s.channel c ≡ counts c = raised_else c counts s.channel apart in
             let total = rest.total in
             record {
-              row = rw (test_apart s.channel c apart) (subst (λ n. IsRow n (filter (is_on_channel c) (numbered key (raised counts s.channel) ss))) same rest.row);
-              total = rw (test_apart s.channel c apart) (omega arith);
+              row = rw f (subst (λ n. IsRow n (filter on (numbered key (raised counts s.channel) ss))) same rest.row);
+              total = rw f (omega arith);
             }
       ]
 
   counts_joined : (before between after : ℕ) (xs ys : List (Event P)) → Counts before between xs → Counts between after ys → Counts before after (xs ++ ys)
   counts_joined before between after xs ys first more =
-      let joined = filter-append (is_on_channel c) xs ys in
+      let joined = filter-append on xs ys in
       let one = first.total in
       let two = more.total in
       record {
-        row = rw joined (row_joined before _ _ first.row (subst (λ n. IsRow n (filter (is_on_channel c) ys)) one more.row));
-        total = rw joined (omega (arith, length-append (filter (is_on_channel c) xs) (filter (is_on_channel c) ys)));
+        row = rw joined (row_joined before _ _ first.row (subst (λ n. IsRow n (filter on ys)) one more.row));
+        total = rw joined (omega (arith, length-append (filter on xs) (filter on ys)));
       }
 
-module _ {B S P : Type 0} (r : Reaction S P) (plan : Plan B S P) (until : ℕ) (kept : Key → Bool) where
+module _ {B S P : Type 0} (r : Reaction S P) (plan : Plan B S P) (until : ℕ) (kept : Key → Bool) (line : ℕ → ℕ) (net : Net) where
+  abbrev run : Scene (States B S P) (Event P)
+  run = scene_of r plan until kept line net
+
   act_counts : (c : ℕ) (x : States B S P) (e : Event P) (o : Option (Entity B S P)) → Counts c (x.counts c) ((acts_at r plan.mappings x e o).counts c) (writes_at r plan.mappings x e o)
   act_counts c x e None = counts_none c (x.counts c)
   act_counts c x e (Some entity) = numbered_counts c e.key x.counts (sent_by r plan.mappings e entity)
@@ -152,123 +209,81 @@ module _ {B S P : Type 0} (r : Reaction S P) (plan : Plan B S P) (until : ℕ) (
   unfolding machine_of
   step_counts c x e = act_counts c x e (slice_get x.entities e.entity)
 
-  pub run_counts : (c n : ℕ) → Counts c (counts_of plan.counts c) ((world_after r plan until kept n).state.counts c) (writes_within r plan until kept n)
+  run_counts : (c n : ℕ) → Counts c (counts_of plan.counts c) ((world_after r plan until kept n).state.counts c) (writes_within run n)
   run_counts c zero = counts_none c (counts_of plan.counts c)
   run_counts c (suc n) =
       let v : World (States B S P) (Event P) = world_after r plan until kept n in
       counts_joined c _ (v.state.counts c) _ _ _ (run_counts c n)
       (elim (step_cases (machine_of r plan.mappings) until kept v.state v.pending) [
-        | inl t ↦ rw (t.due_is, t.next_is, append_none) (step_counts c v.state t.head)
+        | inl t ↦ rw (t.due_is, t.next_is, append-nil) (step_counts c v.state t.head)
         | inr q ↦ rw (q.none, q.next_is) (counts_none c (v.state.counts c))
       ])
 
-  -- ---- each write by its place
+  pub count_after : (c n : ℕ) → (world_after r plan until kept n).state.counts c ≡ counts_of plan.counts c + length (writes_on run c n)
+  unfolding machine_of
+  count_after c n = (run_counts c n).total
 
-  pub write_channel : (c k : ℕ) (d : Event P) → IsWrite r plan until kept c k d → d.key.channel ≡ c
-  write_channel c k d is = (run_counts c is.within).row.channel k d is.is
-
-  pub write_number : (c k : ℕ) (d : Event P) → IsWrite r plan until kept c k d → d.key.number ≡ counts_of plan.counts c + k
+  pub write_number : (c k : ℕ) (d : Event P) → IsWrite run c k d → d.key.number ≡ counts_of plan.counts c + k
+  unfolding machine_of
   write_number c k d is = (run_counts c is.within).row.number k d is.is
 
-  pub one_place : (c j k : ℕ) (d : Event P) → IsWrite r plan until kept c j d → IsWrite r plan until kept c k d → j ≡ k
+  pub one_place : (c j k : ℕ) (d : Event P) → IsWrite run c j d → IsWrite run c k d → j ≡ k
   one_place c j k d first second = let one = write_number c j d first in let two = write_number c k d second in omega arith
 
-  -- what is in the list after some events is in it after more
-  later_more : (c n k m : ℕ) (d : Event P) → slice_get (writes_on r plan until kept c n) k ≡ Some d → slice_get (writes_on r plan until kept c (m + n)) k ≡ Some d
-  later_more c n k zero d h = rw zero-add h
-  later_more c n k (suc m) d h =
-      let joined = filter-append (is_on_channel c) (writes_within r plan until kept (m + n)) (flat_map ((machine_of {B = B} r plan.mappings).writes (world_after r plan until kept (m + n)).state) (option_list (run_event r plan until kept (m + n)))) in
-      rw (suc-add, joined) (place_more _ _ k d (later_more c n k m d h))
+  own_channel : (d : Event P) → channel_of run d ≡ d.key.channel
+  unfolding machine_of
+  own_channel d = refl
 
-  pub one_write : (c k : ℕ) (d e : Event P) → IsWrite r plan until kept c k d → IsWrite r plan until kept c k e → d ≡ e
-  one_write c k d e first second =
-      let one = later_more c first.within k second.within d first.is in
-      let two = later_more c second.within k first.within e second.is in
-      let same : second.within + first.within ≡ first.within + second.within = omega arith in
-      let both : Some d ≡ Some e = sym one ∙ (ap (λ n. slice_get (writes_on r plan until kept c n) k) same ∙ two) in
-      cc
+  own_time : (d : Event P) → time_of run d ≡ d.key.time
+  unfolding machine_of
+  own_time d = refl
 
-  pub has_write : (d : Event P) → IsRunWrite r plan until kept d → (k : ℕ) × IsWrite r plan until kept d.key.channel k d
-  has_write d is =
-      let told : Among d (flat_map ((machine_of {B = B} r plan.mappings).writes (world_after r plan until kept is.at).state) (option_list (run_event r plan until kept is.at))) = rw (is.is, append_none) is.written in
-      let all : Among d (writes_on r plan until kept d.key.channel (suc is.at)) = among_filter (is_on_channel d.key.channel) d (writes_within r plan until kept (suc is.at)) (among_append_right d (writes_within r plan until kept is.at) _ told) (test_same d.key.channel d.key.channel refl) in
-      let found = among_place d _ all in
-      (found.0, record { within = suc is.at; is = found.1 })
+  -- a write on channel c
+  place_on : (c : ℕ) (d : Event P) → IsRunWrite run d → d.key.channel ≡ c → (k : ℕ) × IsWrite run c k d
+  place_on c d is own = let found = has_write run d is in (found.0, subst (λ x. IsWrite run x found.0 d) (own_channel d ∙ own) found.1)
 
-  -- a write by one event
-  by_event : (n : ℕ) (d : Event P) (o : Option (Event P)) → run_event r plan until kept n ≡ o → Among d (flat_map ((machine_of {B = B} r plan.mappings).writes (world_after r plan until kept n).state) (option_list o)) → IsRunWrite r plan until kept d
-  by_event n d None is a = absurd a
-  by_event n d (Some e) is a = record { at = n; by = e; is = is; written = subst (λ (ds : List (Event P)). Among d ds) (append_none ((machine_of {B = B} r plan.mappings).writes (world_after r plan until kept n).state e)) a }
+  pub channel_is : (c k : ℕ) (d : Event P) → IsWrite run c k d → d.key.channel ≡ c
+  channel_is c k d is = sym (own_channel d) ∙ write_channel run c k d is
 
-  by_some : (n : ℕ) (d : Event P) → Among d (writes_within r plan until kept n) → IsRunWrite r plan until kept d
-  by_some zero d a = absurd a
-  by_some (suc n) d a = elim (append_among d (writes_within r plan until kept n) _ a) [ inl before ↦ by_some n d before | inr now ↦ by_event n d (run_event r plan until kept n) refl now ]
-
-  pub is_written : (c k : ℕ) (d : Event P) → IsWrite r plan until kept c k d → IsRunWrite r plan until kept d
-  is_written c k d is = by_some is.within d (filter_among (is_on_channel c) d (writes_within r plan until kept is.within) (place_among _ k d is.is)).among
+  pub has_place : (d : Event P) → IsRunWrite run d → (k : ℕ) × IsWrite run d.key.channel k d
+  has_place d is = place_on d.key.channel d is refl
 
   -- ---- promises
 
-  pub promise_tells : (c bound n : ℕ) → IsPromise r plan until kept c bound n → (d : Event P) → IsRunWrite r plan until kept d → d.key.channel ≡ c → d.key.time < bound → d.key.number < counts_of plan.counts c + n
+  pub promise_tells : (c bound n : ℕ) → IsPromise run c bound n → (d : Event P) → IsRunWrite run d → d.key.channel ≡ c → d.key.time < bound → d.key.number < counts_of plan.counts c + n
   promise_tells c bound n promise d is own early =
-      let found = has_write d is in
-      let write : IsWrite r plan until kept c found.0 d = subst (λ x. IsWrite r plan until kept x found.0 d) own found.1 in
-      let below = promise found.0 d write early in
-      let number = write_number c found.0 d write in
+      let found = place_on c d is own in
+      let below = promise found.0 d found.1 (rw (own_time d) early) in
+      let number = write_number c found.0 d found.1 in
       omega arith
 
-  pub promise_told : (c bound n : ℕ) → ((d : Event P) → IsRunWrite r plan until kept d → d.key.channel ≡ c → d.key.time < bound → d.key.number < counts_of plan.counts c + n) → IsPromise r plan until kept c bound n
+  pub promise_told : (c bound n : ℕ) → ((d : Event P) → IsRunWrite run d → d.key.channel ≡ c → d.key.time < bound → d.key.number < counts_of plan.counts c + n) → IsPromise run c bound n
   promise_told c bound n told k d is early =
-      let below = told d (is_written c k d is) (write_channel c k d is) early in
+      let below = told d (is_written run c k d is) (channel_is c k d is) (rw (← own_time d) early) in
       let number = write_number c k d is in
       omega arith
 
   -- ---- parcels
 
-  pub parcels_agree : (first second : Bool) (c : ℕ) (p q : Parcel P) → IsTrueParcel r plan until kept first c p → IsTrueParcel r plan until kept second c q
-      → (i j : ℕ) (d e : Event P) → p.first + i ≡ q.first + j → slice_get p.events i ≡ Some d → slice_get q.events j ≡ Some e → d ≡ e
-  parcels_agree first second c p q one two i j d e same at there =
-      one_write c (p.first + i) d e (one.events i d at) (subst (λ n. IsWrite r plan until kept c n e) (sym same) (two.events j e there))
+  pub parcel_leaves_none : (c first end bound : ℕ) (ds : List (Event P)) → net.appointed c ≡ true → IsTrueParcel run c first ds end bound → (d : Event P) → IsRunWrite run d → d.key.channel ≡ c → d.key.time < bound
+      → (d.key.number < counts_of plan.counts c + first) ⊎ Among d ds
+  parcel_leaves_none c first end bound ds appointed is d written own early =
+      let found = place_on c d written own in
+      let number = write_number c found.0 d found.1 in
+      elim (parcel_whole run c first end bound ds appointed is found.0 d found.1 (rw (own_time d) early)) [ inl before ↦ inl (omega arith) | inr a ↦ inr a ]
 
-  pub parcel_whole : (c : ℕ) (parcel : Parcel P) → IsTrueParcel r plan until kept true c parcel → (d : Event P) → IsRunWrite r plan until kept d → d.key.channel ≡ c → d.key.time < parcel.promise
-      → (d.key.number < counts_of plan.counts c + parcel.first) ⊎ Among d parcel.events
-  parcel_whole c parcel is d written own early =
-      let found = has_write d written in
-      let k : ℕ = found.0 in
-      let write : IsWrite r plan until kept c k d = subst (λ x. IsWrite r plan until kept x k d) own found.1 in
-      let below = is.promise refl k d write early in
-      let number = write_number c k d write in
-      elim (less_or k parcel.first) [
-        | inl before ↦ inl (omega arith)
-        | inr later ↦
-            let place : later.0 < length parcel.events = omega (arith, later.1) in
-            let there = has_place parcel.events later.0 place in
-            let held : IsWrite r plan until kept c k there.0 = subst (λ n. IsWrite r plan until kept c n there.0) (sym later.1) (is.events later.0 there.0 there.1) in
-            inr (place_among parcel.events later.0 d (there.1 ∙ ap (λ z. Some z) (one_write c k there.0 d held write)))
-      ]
+  pub stretch_tells : (c first end : ℕ) (ds : List (Event P)) → IsStretch run c first ds end → (j : ℕ) (d : Event P) → slice_get ds j ≡ Some d
+      → IsRunWrite run d × (d.key.channel ≡ c) × (d.key.number ≡ counts_of plan.counts c + (first + j))
+  stretch_tells c first end ds is j d at =
+      let w = stretch_at run c first end ds is j d at in (is_written run c (first + j) d w, channel_is c (first + j) d w, write_number c (first + j) d w)
 
-  pub parcel_tells : (appointed : Bool) (c : ℕ) (parcel : Parcel P) → IsTrueParcel r plan until kept appointed c parcel → (j : ℕ) (d : Event P) → slice_get parcel.events j ≡ Some d
-      → IsRunWrite r plan until kept d × (d.key.channel ≡ c) × (d.key.number ≡ counts_of plan.counts c + (parcel.first + j))
-  parcel_tells appointed c parcel is j d at = let w = is.events j d at in (is_written c (parcel.first + j) d w, write_channel c (parcel.first + j) d w, write_number c (parcel.first + j) d w)
-
-  pub parcel_told : (appointed : Bool) (c : ℕ) (parcel : Parcel P)
-      → ((j : ℕ) (d : Event P) → slice_get parcel.events j ≡ Some d → IsRunWrite r plan until kept d × (d.key.channel ≡ c) × (d.key.number ≡ counts_of plan.counts c + (parcel.first + j)))
-      → (appointed ≡ true → parcel.promise ≤ until + 1)
-      → (appointed ≡ true → (d : Event P) → IsRunWrite r plan until kept d → d.key.channel ≡ c → d.key.time < parcel.promise → d.key.number < counts_of plan.counts c + (parcel.first + length parcel.events))
-      → IsTrueParcel r plan until kept appointed c parcel
-  parcel_told appointed c parcel told least promise = record {
-    events = λ j d at.
-        let has = told j d at in
-        let found = has_write d has.0 in
-        let write : IsWrite r plan until kept c found.0 d = subst (λ x. IsWrite r plan until kept x found.0 d) has.1 found.1 in
-        let number = write_number c found.0 d write in
-        let given = has.2 in
-        let same : found.0 ≡ parcel.first + j = omega arith in
-        subst (λ k. IsWrite r plan until kept c k d) same write;
-    least = least;
-    promise = λ own. promise_told c parcel.promise (parcel.first + length parcel.events) (promise own);
-  }
-
-  pub parcel_promises : (c : ℕ) (parcel : Parcel P) → IsTrueParcel r plan until kept true c parcel
-      → (parcel.promise ≤ until + 1) × ((d : Event P) → IsRunWrite r plan until kept d → d.key.channel ≡ c → d.key.time < parcel.promise → d.key.number < counts_of plan.counts c + (parcel.first + length parcel.events))
-  parcel_promises c parcel is = (is.least refl, promise_tells c parcel.promise (parcel.first + length parcel.events) (is.promise refl))
+  pub stretch_told : (c first end : ℕ) (ds : List (Event P)) → end ≡ first + length ds
+      → ((j : ℕ) (d : Event P) → slice_get ds j ≡ Some d → IsRunWrite run d × (d.key.channel ≡ c) × (d.key.number ≡ counts_of plan.counts c + (first + j)))
+      → IsStretch run c first ds end
+  stretch_told c first end ds long told = stretch_of run c first ds end long (λ j d at.
+      let has = told j d at in
+      let found = place_on c d has.0 has.1 in
+      let number = write_number c found.0 d found.1 in
+      let given = has.2 in
+      let same : found.0 ≡ first + j = omega arith in
+      subst (λ k. IsWrite run c k d) same found.1)

@@ -13,48 +13,8 @@ use Rattle.ssf_model.specs.Reaction.{Reaction, Each}
 use Rattle.ssf_model.specs.Channels.{Sent, sent_by, numbered, raised, counted}
 use Rattle.ssf_model.specs.Run.{States, acts_at, writes_at, machine_of, opening, counts_of}
 use Rattle.run_laws.specs.Openings.{OpensInOrder}
-use Rattle.run_laws.specs.Joined.{IsWriteOf}
-
-raised_same : (counts : ℕ → ℕ) (c : ℕ) → raised counts c c ≡ counts c + 1
-raised_same counts c = rw (eq-eqb c c refl) refl
-
-raised_grows : (counts : ℕ → ℕ) (c d : ℕ) → counts d ≤ raised counts c d
-raised_grows counts c d = elim (nat_eq d c) as (λ t. counts d ≤ cond t (counts d + 1) (counts d)) [ true ↦ omega arith | false ↦ omega arith ]
-
-pub counted_grows : {P : Type 0} (counts : ℕ → ℕ) (ss : List (Sent P)) (c : ℕ) → counts c ≤ counted counts ss c
-counted_grows counts [] c = omega arith
-counted_grows counts (s ∷ ss) c = omega (arith, raised_grows counts s.channel c, counted_grows (raised counts s.channel) ss c)
-
--- an event that is one of these, numbered by its channel's count
-pub record IsNumbered {P : Type 0} (key : Key) (counts : ℕ → ℕ) (ss : List (Sent P)) (b : Event P) : Type 0 where
-  pub sent : Sent P
-  pub among : Among sent ss
-  pub number : ℕ
-  pub key_is : b.key ≡ child_of key sent.delay sent.priority sent.channel number
-  pub entity_is : b.entity ≡ sent.entity
-  pub low : counts sent.channel ≤ number
-  pub high : number < counted counts ss sent.channel
-
-pub numbered_is : {P : Type 0} (key : Key) (counts : ℕ → ℕ) (ss : List (Sent P)) (b : Event P) → Among b (numbered key counts ss) → IsNumbered key counts ss b
-numbered_is key counts [] b a = absurd a
-numbered_is key counts (s ∷ ss) b (inl e) = record {
-  sent = s;
-  among = inl refl;
-  number = counts s.channel;
-  key_is = ap (λ (d : Event _). d.key) e;
-  entity_is = ap (λ (d : Event _). d.entity) e;
-  low = omega arith;
-  high = omega (arith, raised_same counts s.channel, counted_grows (raised counts s.channel) ss s.channel);
-}
-numbered_is key counts (s ∷ ss) b (inr a) = let n = numbered_is key (raised counts s.channel) ss b a in record {
-  sent = n.sent;
-  among = inr n.among;
-  number = n.number;
-  key_is = n.key_is;
-  entity_is = n.entity_is;
-  low = omega (arith, raised_grows counts s.channel n.sent.channel, n.low);
-  high = n.high;
-}
+use Rattle.run_laws.proofs.Lists.{each_among}
+use Rattle.run_laws.proofs.Counts.{raised_same, counted_grows, IsNumbered, numbered_is}
 
 numbered_apart : {P : Type 0} (key : Key) (counts : ℕ → ℕ) (ss : List (Sent P)) → IsApart (λ (e : Event P). e.key) (numbered key counts ss)
 numbered_apart key counts [] = tt
@@ -65,7 +25,7 @@ numbered_apart key counts (s ∷ ss) = (
       let c : s.channel ≡ n.sent.channel = ap (λ (k : Key). k.channel) q in
       let m : counts s.channel ≡ n.number = ap (λ (k : Key). k.number) q in
       let l : raised counts s.channel s.channel ≤ n.number = subst (λ j. raised counts s.channel j ≤ n.number) (sym c) n.low in
-      omega (arith, raised_same counts s.channel, l, m)),
+      omega (arith, raised_same s.channel counts, l, m)),
   numbered_apart key (raised counts s.channel) ss,
 )
 
@@ -120,19 +80,14 @@ module _ {B S P : Type 0} (r : Reaction S P) (ms : List Mapping) where
   abbrev pub fine : States B S P → Event P → Type 0
   fine x e = Unit {0}
 
-  pub has_rounds : HasRounds (machine_of {B = B} r ms) fine (IsWriteOf B r ms)
+  pub has_rounds : HasRounds (machine_of {B = B} r ms) fine (λ e d. Unit {0})
   unfolding machine_of
   has_rounds = record {
     parented = λ x e b f a. elim (writes_rounded x e b (slice_get x.entities e.entity) a) [
       | inl later ↦ inl later
-      | inr next ↦ inr (next.0, next.1, (x, a))
+      | inr next ↦ inr (next.0, next.1, tt)
     ];
   }
-
-each_among : {T : Type 0} (Q : T → Type 0) (xs : List T) (x : T) → Each Q xs → Among x xs → Q x
-each_among Q [] x all a = absurd a
-each_among Q (y ∷ ys) x all (inl e) = subst Q (sym e) all.0
-each_among Q (y ∷ ys) x all (inr a) = each_among Q ys x all.1 a
 
 module _ {B S P : Type 0} (r : Reaction S P) (plan : Plan B S P) (opens : OpensInOrder plan) where
   pub opened : IsOpening (machine_of {B = B} r plan.mappings) (known r plan.mappings) (opening plan)

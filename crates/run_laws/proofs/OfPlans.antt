@@ -1,22 +1,33 @@
 -- The laws of machines, for the machine of a plan.
-use Rattle.std.proofs.Common.{◌≡◌, ◌⊎◌, ℕ, ◌+◌, ◌<◌, ◌≤◌, Bool, Some, None, arith}
+use Rattle.std.proofs.Common.{◌≡◌, ◌⊎◌, ℕ, zero, suc, ◌+◌, ◌<◌, ◌≤◌, Bool, List, ◌++◌, refl, ap, ◌∙◌, Some, None, option_map, arith}
 use Rattle.event_order.specs.declared.key.Key.{Key}
 use Rattle.event_order.specs.Order.{IsBefore}
 use Rattle.event_order.specs.Pending.{Among, IsRising}
-use Rattle.event_order.specs.Machine.{within, all_kept}
+use Rattle.event_order.specs.Machine.{World, after, event, due, option_list, within, all_kept}
 use Rattle.event_order.specs.Run.{WrittenBefore, ExecutedWithin, Arises, Chain}
 use Rattle.event_order.proofs.Steps.{event_arises, ended_later, ended_after}
 use Rattle.event_order.proofs.Keys.{keys_rise, pending_rises, one_key, pending_executed}
-use Rattle.event_order.proofs.Rounds.{rounds, first_events_same}
+use Rattle.event_order.proofs.Rounds.{rounds, first_events_same, cut_same}
 use Rattle.event_order.proofs.Finite.{finite}
 use Rattle.ssf_model.specs.declared.event.Event.{Event}
+use Rattle.ssf_model.specs.declared.event.Entry.{Entry}
+use Rattle.ssf_model.specs.declared.plan.Mapping.{Mapping}
 use Rattle.ssf_model.specs.declared.plan.Plan.{Plan}
 use Rattle.ssf_model.specs.Reaction.{Reaction}
-use Rattle.ssf_model.specs.Run.{machine_of, opening, run_event, run_events, run_entries, world_after}
-use Rattle.global_list.proofs.Cuts.{cut_entries}
+use Rattle.ssf_model.specs.Run.{States, machine_of, opening, run_event, run_events, entry_at, entries_from, run_entries, world_after}
 use Rattle.run_laws.specs.Openings.{OpensInOrder}
-use Rattle.run_laws.specs.Joined.{IsWriteOf}
 use Rattle.run_laws.proofs.Lawful.{known, fine, lawful, has_rounds, opened, rounds_opened}
+
+-- where two cuts lead through the same worlds, the entries are the same
+pub same_entries : {B S P : Type 0} (r : Reaction S P) (ms : List Mapping) (until : ℕ) (kept other : Key → Bool) (w : World (States B S P) (Event P)) (n : ℕ) →
+    ((k : ℕ) → k < n → after (machine_of r ms) until kept w k ≡ after (machine_of r ms) until other w k) →
+    entries_from r ms until kept w n ≡ entries_from r ms until other w n
+same_entries r ms until kept other w zero h = refl
+same_entries {B} {S} {P} r ms until kept other w (suc n) h =
+    ap (λ (v : World (States B S P) (Event P)). entries_from r ms until kept w n
+    ++ option_list (option_map (entry_at r v.state.entities) (due (machine_of {B = B} r ms).key until v.pending))) (h n (omega arith))
+    ∙ ap (λ (xs : List Entry). xs ++ option_list (option_map (entry_at r (after (machine_of r ms) until other w n).state.entities) (event (machine_of r ms) until other w n)))
+    (same_entries r ms until kept other w n (λ k l. h k (omega arith)))
 
 module _ {B S P : Type 0} (r : Reaction S P) (plan : Plan B S P) (until : ℕ) (opens : OpensInOrder plan) where
   pub plan_keys_rise : (kept : Key → Bool) (n k : ℕ) (e d : Event P) → n < k → run_event r plan until kept n ≡ Some e → run_event r plan until kept k ≡ Some d → IsBefore e.key d.key
@@ -41,25 +52,32 @@ module _ {B S P : Type 0} (r : Reaction S P) (plan : Plan B S P) (until : ℕ) (
       pending_executed (machine_of {B = B} r plan.mappings) until kept (opening plan) (known r plan.mappings) (lawful r plan.mappings) (opened r plan opens) end n e o h a t
 
   pub plan_rounds : (kept : Key → Bool) (n : ℕ) (e : Event P) → run_event r plan until kept n ≡ Some e →
-      Chain (machine_of {B = B} r plan.mappings) until kept (opening plan) (IsWriteOf B r plan.mappings) n e e.key.round
+      Chain (machine_of {B = B} r plan.mappings) until kept (opening plan) (λ p d. Unit {0}) n e e.key.round
   unfolding machine_of
   plan_rounds kept n e h =
-      rounds (machine_of {B = B} r plan.mappings) until kept (opening plan) (fine r plan.mappings) (IsWriteOf B r plan.mappings) (has_rounds r plan.mappings)
+      rounds (machine_of {B = B} r plan.mappings) until kept (opening plan) (fine r plan.mappings) (λ p d. Unit {0}) (has_rounds r plan.mappings)
       (λ k d q. tt) (rounds_opened r plan opens) n e h
 
   pub plan_cut_ends : (R : ℕ) → (n : ℕ) × (run_event r plan until (within R) n ≡ None)
   plan_cut_ends R =
-      finite (machine_of {B = B} r plan.mappings) until R (opening plan) (known r plan.mappings) (fine r plan.mappings) (IsWriteOf B r plan.mappings)
+      finite (machine_of {B = B} r plan.mappings) until R (opening plan) (known r plan.mappings) (fine r plan.mappings) (λ p d. Unit {0})
       (lawful r plan.mappings) (opened r plan opens) (has_rounds r plan.mappings) (λ k d q. tt) (rounds_opened r plan opens)
 
   pub plan_cut_same : (R n : ℕ) → n ≤ R + 1 → run_events r plan until (within R) n ≡ run_events r plan until all_kept n
   plan_cut_same R n h =
-      first_events_same (machine_of {B = B} r plan.mappings) until (opening plan) (fine r plan.mappings) (IsWriteOf B r plan.mappings) (has_rounds r plan.mappings)
+      first_events_same (machine_of {B = B} r plan.mappings) until (opening plan) (fine r plan.mappings) (λ p d. Unit {0}) (has_rounds r plan.mappings)
       (λ k d q. tt) (rounds_opened r plan opens) R n (omega arith)
 
+  pub plan_cut_world : (R n : ℕ) → n ≤ R → world_after r plan until (within R) n ≡ world_after r plan until all_kept n
+  plan_cut_world R n h =
+      cut_same (machine_of {B = B} r plan.mappings) until (opening plan) (fine r plan.mappings) (λ p d. Unit {0}) (has_rounds r plan.mappings)
+      (λ k d q. tt) (rounds_opened r plan opens) R n h
+
+  pub plan_cut_event : (R n : ℕ) → n ≤ R → run_event r plan until (within R) n ≡ run_event r plan until all_kept n
+  plan_cut_event R n h = ap (λ (v : World (States B S P) (Event P)). due (machine_of {B = B} r plan.mappings).key until v.pending) (plan_cut_world R n h)
+
   pub plan_cut_entries : (R n : ℕ) → n ≤ R + 1 → run_entries r plan until (within R) n ≡ run_entries r plan until all_kept n
-  unfolding machine_of
-  plan_cut_entries R n h = cut_entries r plan.mappings until (opening plan) (rounds_opened r plan opens) R n (omega arith)
+  plan_cut_entries R n h = same_entries r plan.mappings until (within R) all_kept (opening plan) n (λ k l. plan_cut_world R k (omega arith))
 
 pub plan_events_arise : {B S P : Type 0} (r : Reaction S P) (plan : Plan B S P) (until : ℕ) (kept : Key → Bool) (n : ℕ) (e : Event P) → run_event r plan until kept n ≡ Some e →
     Among e plan.events ⊎ WrittenBefore (machine_of {B = B} r plan.mappings) until kept (opening plan) n e

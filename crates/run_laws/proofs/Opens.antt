@@ -14,16 +14,13 @@ use Rattle.ssf_model.specs.Reaction.{Validity, Each}
 use Rattle.ssf_model.specs.Drafts.{Draft, planned, start, all_timers}
 use Rattle.ssf_model.specs.Run.{Fits, IsPending, counts_of}
 use Rattle.run_laws.specs.Openings.{OpensInOrder}
-
-each_map : {T : Type 0} (Q R : T → Type 0) (xs : List T) → ((x : T) → Q x → R x) → Each Q xs → Each R xs
-each_map Q R [] f e = tt
-each_map Q R (x ∷ xs) f e = (f x e.0, each_map Q R xs f e.1)
+use Rattle.run_laws.proofs.Lists.{each_of}
 
 pub fits_open : {B S P : Type 0} (valid : Validity S) (carried : P → Type 0) (plan : Plan B S P) → Fits valid carried plan → OpensInOrder plan
 fits_open valid carried plan fits = record {
   rising = fits.opened.rising;
-  rounds = each_map (IsPending carried plan) (λ e. e.key.round ≡ 0) plan.events (λ e p. p.round) fits.opened.pending;
-  numbers = each_map (IsPending carried plan) (λ e. e.key.number < counts_of plan.counts e.key.channel) plan.events (λ e p. p.number) fits.opened.pending;
+  rounds = each_of (IsPending carried plan) (λ e. e.key.round ≡ 0) plan.events (λ e p. p.round) fits.opened.pending;
+  numbers = each_of (IsPending carried plan) (λ e. e.key.number < counts_of plan.counts e.key.channel) plan.events (λ e p. p.number) fits.opened.pending;
 }
 
 less_first : (x y : ℕ) (r : Ordering) → x < y → ordering_then (nat_cmp x y) r ≡ Less

@@ -1,6 +1,6 @@
 -- Shares of a run, and cuts that drop nothing: where an event of round k has k earlier events of its share, and no share
 -- has many events, rounds stay low.
-use Rattle.std.proofs.Common.{◌≡◌, ℕ, zero, suc, ◌+◌, ◌<◌, ◌≤◌, Bool, true, List, [], ◌∷◌, ◌++◌, filter, length, refl, sym, ap, ◌∙◌, subst, inl, inr, arith, zero-add, Some}
+use Rattle.std.proofs.Common.{◌≡◌, ℕ, zero, suc, ◌+◌, ◌<◌, ◌≤◌, Bool, true, List, [], ◌∷◌, ◌++◌, filter, length, refl, sym, ap, ◌∙◌, subst, inl, inr, arith, zero-add, Option, Some, None}
 use native.Mathlib.Nat.{suc-add}
 use Rattle.event_order.specs.declared.key.Key.{Key}
 use Rattle.event_order.specs.Pending.{Among}
@@ -19,9 +19,14 @@ longer_filter p (x ∷ xs) ys = elim (test_cases (p x)) [
   | inr f ↦ let h = longer_filter p xs ys in rw (f) h
 ]
 
-one_more : {E : Type 0} (xs : List E) (x : E) → length (xs ++ x ∷ []) ≡ suc (length xs)
+pub one_more : {E : Type 0} (xs : List E) (x : E) → length (xs ++ x ∷ []) ≡ suc (length xs)
 one_more [] x = refl
 one_more (y ∷ ys) x = ap (λ n. suc n) (one_more ys x)
+
+filter_one : {E : Type 0} (p : E → Bool) (xs : List E) (o : Option E) → length (filter p (xs ++ option_list o)) ≤ suc (length (filter p xs))
+filter_one p [] None = omega arith
+filter_one p [] (Some e) = elim (test_cases (p e)) [ inl t ↦ rw t (omega arith) | inr f ↦ rw f (omega arith) ]
+filter_one p (x ∷ xs) o = let h = filter_one p xs o in elim (test_cases (p x)) [ inl t ↦ rw t (omega arith) | inr f ↦ rw f h ]
 
 module _ {X E : Type 0} (m : Machine X E) (until : ℕ) (kept : Key → Bool) (w : World X E) where
   share_grows : (mine : E → Bool) (k n : ℕ) → length (share m until kept w mine n) ≤ length (share m until kept w mine (k + n))
@@ -36,8 +41,12 @@ module _ {X E : Type 0} (m : Machine X E) (until : ℕ) (kept : Key → Bool) (w
   grows_to mine n k l = let d = difference n k l in
       subst (λ j. length (share m until kept w mine n) ≤ length (share m until kept w mine j)) (sym d.1) (share_grows mine d.0 n)
 
+  pub share_length : (mine : E → Bool) (n : ℕ) → length (share m until kept w mine n) ≤ n
+  share_length mine zero = omega arith
+  share_length mine (suc n) = omega (arith, filter_one mine (first_events m until kept w n) (event m until kept w n), share_length mine n)
+
   -- a chain within one share, and the share's length
-  chain_share : (joined : E → E → Type 0) (mine : E → Bool) → ((p d : E) → joined p d → mine d ≡ true → mine p ≡ true) →
+  pub chain_share : (joined : E → E → Type 0) (mine : E → Bool) → ((p d : E) → joined p d → (m.key p).time ≡ (m.key d).time → mine d ≡ true → mine p ≡ true) →
       (r n : ℕ) (e : E) → event m until kept w n ≡ Some e → mine e ≡ true → Chain m until kept w joined n e r → r < length (share m until kept w mine (suc n))
   chain_share joined mine stays zero n e h own c = omega (
     arith,
@@ -46,7 +55,7 @@ module _ {X E : Type 0} (m : Machine X E) (until : ℕ) (kept : Key → Bool) (w
   )
   chain_share joined mine stays (suc r) n e h own c =
       let link = c.2 in
-      let before = chain_share joined mine stays r c.0 c.1 link.is (stays c.1 e link.link own) c.3 in
+      let before = chain_share joined mine stays r c.0 c.1 link.is (stays c.1 e link.link link.time own) c.3 in
       let early : suc c.0 ≤ n = omega (arith, link.earlier) in
       omega (
         arith,
@@ -65,7 +74,7 @@ module _ {X E : Type 0} (m : Machine X E) (until : ℕ) (kept : Key → Bool) (w
     -- every write is of a low round
     written_low : (n : ℕ) (e b : E) → event m until kept w n ≡ Some e → Among b (m.writes (after m until kept w n).state e) → (m.key b).round ≤ most
     written_low n e b h a =
-        let long = chain_share joined (on (place e)) (stays (place e)) (m.key e).round n e h (is_on e) (rounds m until kept w fine joined rounded all_fine first n e h) in
+        let long = chain_share joined (on (place e)) (λ p d j t. stays (place e) p d j) (m.key e).round n e h (is_on e) (rounds m until kept w fine joined rounded all_fine first n e h) in
         let below = few (place e) (suc n) in
         elim (rounded.parented (after m until kept w n).state e b (all_fine n e h) a) [
           | inl later ↦ omega (arith, later.0)

@@ -22,10 +22,10 @@ abbrev pub IsTimerOf : {B S P : Type 0} → ℕ → Entity B S P → Type 0
 IsTimerOf channel e = Among channel (flat_map (λ p. option_to_list p.timer) e.processes)
 
 -- the entity writes on this channel: on a mapping that leads from it, or on a timer channel of its own
-abbrev pub WritesOn : {B S P : Type 0} → Plan B S P → ℕ → ℕ → Type 0
-WritesOn plan entity channel = ((m : Mapping) × Among m plan.mappings × IsMappedFrom entity channel m) ⊎ HasAt plan.entities entity (IsTimerOf channel)
+abbrev pub IsWriterOn : {B S P : Type 0} → Plan B S P → ℕ → ℕ → Type 0
+IsWriterOn plan entity channel = ((m : Mapping) × Among m plan.mappings × IsMappedFrom entity channel m) ⊎ HasAt plan.entities entity (IsTimerOf channel)
 
 -- two states in which the group's entities are the same, and so are the counts of the channels on which they write
 pub record IsSameGroup {B S P : Type 0} (plan : Plan B S P) (own : ℕ → Bool) (x y : States B S P) : Type 0 where
   pub entities : (k : ℕ) → own k ≡ true → slice_get x.entities k ≡ slice_get y.entities k
-  pub counts : (k c : ℕ) → own k ≡ true → WritesOn plan k c → x.counts c ≡ y.counts c
+  pub counts : (k c : ℕ) → own k ≡ true → IsWriterOn plan k c → x.counts c ≡ y.counts c

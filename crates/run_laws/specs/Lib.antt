@@ -1,4 +1,5 @@
 pub mod Joined
 pub mod Openings
 pub mod Groups
+pub mod Healthy
 pub mod Writes

@@ -2,23 +2,29 @@
 //! `kept` the cut: a test on keys, and a write whose key does not pass it is counted and does not
 //! become pending.
 
-ghost use Rattle.std.specs.Prelude.{◌≡◌, ◌⊎◌, ℕ, ◌+◌, ◌<◌, ◌≤◌, Bool, true, length, Some, None, slice_get};
+ghost use Rattle.std.specs.Prelude.{◌≡◌, ◌⊎◌, ℕ, ◌+◌, ◌*◌, ◌<◌, ◌≤◌, ◌++◌, Bool, List, All, true, suc, count_by, length, Some, None, slice_get};
 ghost use Rattle.event_order.specs.declared.key.Key.{Key as KeyValue};
 ghost use Rattle.event_order.specs.Order.{IsBefore};
 ghost use Rattle.event_order.specs.Pending.{Among, IsRising};
-ghost use Rattle.event_order.specs.Machine.{within, all_kept};
+ghost use Rattle.event_order.specs.Machine.{after, within, all_kept};
 ghost use Rattle.event_order.specs.Run.{WrittenBefore, ExecutedWithin, Arises, Chain, share, acted};
 ghost use Rattle.ssf_model.specs.declared.event.Event.{Event};
-ghost use Rattle.ssf_model.specs.declared.event.Parcel.{Parcel};
+ghost use Rattle.ssf_model.specs.declared.event.Entry.{Entry};
+ghost use Rattle.ssf_model.specs.declared.entity.Entity.{Entity};
+ghost use Rattle.ssf_model.specs.declared.wait.Wake.{Wake};
 ghost use Rattle.ssf_model.specs.declared.plan.Plan.{Plan};
-ghost use Rattle.ssf_model.specs.Reaction.{LatestTime};
-ghost use Rattle.ssf_model.specs.Truth.{line_events, writes_on, IsWrite, IsPromise, IsTrueParcel};
-ghost use Rattle.ssf_model.specs.Run.{Fits, counts_of, machine_of, opening, run_event, run_events, run_entries, world_after};
+ghost use Rattle.ssf_model.specs.Reaction.{LatestTime, LongestDelay};
+ghost use Rattle.ssf_model.specs.Entities.{IsValidEntity};
+ghost use Rattle.ssf_model.specs.Channels.{Sent, sent_by};
+ghost use Rattle.ssf_model.specs.Scene.{Net, Scene, scene_of, channel_of, time_of};
+ghost use Rattle.ssf_model.specs.Truth.{line_events_at, AreFew, writes_on, IsWrite, IsRunWrite, IsStretch, IsPromise, IsTrueParcel};
+ghost use Rattle.ssf_model.specs.Run.{Fits, counts_of, machine_of, opening, run_event, run_events, run_entries, entries_from, world_after};
 ghost use Rattle.ssf_model.specs.Drafts.{Draft, planned};
-ghost use Rattle.run_laws.specs.Joined.{IsWriteOf, IsPassedOn, IsAligned};
-ghost use Rattle.run_laws.specs.Groups.{IsSameGroup, is_own};
+ghost use Rattle.run_laws.specs.Joined.{FollowsEarlier, IsFollowing, IsPassedOn, IsAligned, KeepsRounds};
+ghost use Rattle.run_laws.specs.Groups.{IsSameGroup, IsWriterOn, is_own};
+ghost use Rattle.run_laws.specs.Healthy.{IsHealthy, MostSent, spent_by};
 ghost use Rattle.run_laws.specs.Openings.{OpensInOrder};
-ghost use Rattle.run_laws.specs.Writes.{IsRunWrite};
+ghost use Rattle.run_laws.specs.Writes.{is_on};
 
 use ssf_model::Behaviour;
 
@@ -86,20 +92,112 @@ pub fn groups_depend_on_own_events<B: Behaviour>()
 {}
 
 /// Before an event of round k stand k events at its time, one of each lower round, each of which
-/// wrote the next: a write that arrives at its own time is one on mappings without delay.
+/// wrote the next.
 pub fn rounds_are_chained<B: Behaviour>()
     ensures { (b : B) (plan : Plan B B.State B.Payload) (until : ℕ) (kept : KeyValue → Bool) → OpensInOrder plan
         → (n : ℕ) (e : Event B.Payload) → run_event (B.reaction b) plan until kept n ≡ Some e
-        → Chain (machine_of (B.reaction b) plan.mappings) until kept (opening plan) (IsWriteOf B (B.reaction b) plan.mappings) n e e.key.round }
+        → Chain (machine_of (B.reaction b) plan.mappings) until kept (opening plan) (λ p d. Unit {0}) n e e.key.round }
 {}
 
-/// Before an event of round k of a plan that fits stand k events at its time, one of each lower
-/// round, each of which wrote the next: without delay, and on a mapping of the plan without delay
-/// that leads from the entity of the one to that of the other.
+/// Of a plan that fits, each of these events passed the next on: without delay, along a mapping
+/// without delay that leads from the entity of the one to that of the other.
 pub fn rounds_are_passed_on<B: Behaviour>()
     ensures { (b : B) (plan : Plan B B.State B.Payload) (until : ℕ) (kept : KeyValue → Bool) → Fits (B.valid b) (B.carried b) plan → until ≤ LatestTime
         → (n : ℕ) (e : Event B.Payload) → run_event (B.reaction b) plan until kept n ≡ Some e
-        → Chain (machine_of (B.reaction b) plan.mappings) until kept (opening plan) (IsPassedOn (B.reaction b) plan) n e e.key.round }
+        → Chain (machine_of (B.reaction b) plan.mappings) until kept (opening plan) (IsPassedOn (B.reaction b) plan until kept) n e e.key.round }
+{}
+
+/// Where the two ends of each mapping without delay are on one timeline, an event of round k has k
+/// earlier events of its own timeline at its time.
+pub fn rounds_count_own_events<B: Behaviour>()
+    ensures { (b : B) (plan : Plan B B.State B.Payload) (until : ℕ) (kept : KeyValue → Bool) (line : ℕ → ℕ) (net : Net)
+        → Fits (B.valid b) (B.carried b) plan → until ≤ LatestTime → IsAligned plan line
+        → (n : ℕ) (e : Event B.Payload) → run_event (B.reaction b) plan until kept n ≡ Some e
+        → e.key.round ≤ length (line_events_at (scene_of (B.reaction b) plan until kept line net) (line e.entity) e.key.time n) }
+{}
+
+/// What an event of the run of a plan that fits writes goes along a mapping that leads from its
+/// entity, with its delay and with what the entity wrote, or it ends a wait (`writes`). So each event
+/// is one of the opening's or follows an earlier one in this way (`events`).
+pub fn writes_follow_mappings<B: Behaviour>()
+    ensures writes { (b : B) (plan : Plan B B.State B.Payload) (until : ℕ) (kept : KeyValue → Bool) → Fits (B.valid b) (B.carried b) plan → until ≤ LatestTime
+        → (n : ℕ) (e d : Event B.Payload) → run_event (B.reaction b) plan until kept n ≡ Some e
+        → Among d ((machine_of (B.reaction b) plan.mappings).writes (world_after (B.reaction b) plan until kept n).state e)
+        → IsFollowing (B.reaction b) plan (world_after (B.reaction b) plan until kept n).state e d }
+    ensures events { (b : B) (plan : Plan B B.State B.Payload) (until : ℕ) (kept : KeyValue → Bool) → Fits (B.valid b) (B.carried b) plan → until ≤ LatestTime
+        → (n : ℕ) (d : Event B.Payload) → run_event (B.reaction b) plan until kept n ≡ Some d
+        → Among d plan.events ⊎ FollowsEarlier (B.reaction b) plan until kept n d }
+{}
+
+/// Every state of the run of a plan that fits is valid with its waits.
+pub fn runs_stay_valid<B: Behaviour>()
+    ensures { (b : B) (plan : Plan B B.State B.Payload) (until : ℕ) (kept : KeyValue → Bool) → Fits (B.valid b) (B.carried b) plan → until ≤ LatestTime
+        → (n k : ℕ) (e : Entity B B.State B.Payload) → slice_get (world_after (B.reaction b) plan until kept n).state.entities k ≡ Some e
+        → IsValidEntity (B.valid b) e }
+{}
+
+/// What no action changes of a state stays along the run: `look` is what one sees of it.
+pub fn states_keep<B: Behaviour, T>()
+    ensures { (b : B) (plan : Plan B B.State B.Payload) (until : ℕ) (kept : KeyValue → Bool) (look : B.State → T)
+        → ((s : B.State) (process now : ℕ) (wake : Wake B.Payload) → look (B.reaction b s process now wake).state ≡ look s)
+        → (n k : ℕ) (e : Entity B B.State B.Payload) → slice_get (world_after (B.reaction b) plan until kept n).state.entities k ≡ Some e
+        → (first : Entity B B.State B.Payload) × (slice_get plan.entities k ≡ Some first) × (look e.state ≡ look first.state) }
+{}
+
+/// The run of a plan that fits stays healthy: after n events the numbers of an entity are within what
+/// its own timeline's events among them allow, where the two ends of each mapping without delay are
+/// on one timeline. With fewer than 10^12 events of the timeline, tickets, rounds and counts are below
+/// 2^63, and so are those after one event more.
+pub fn runs_stay_healthy<B: Behaviour>()
+    ensures { (b : B) (plan : Plan B B.State B.Payload) (until : ℕ) (kept : KeyValue → Bool) (line : ℕ → ℕ)
+        → Fits (B.valid b) (B.carried b) plan → until ≤ LatestTime → IsAligned plan line
+        → (n : ℕ) → IsHealthy (B.valid b) (B.carried b) plan (spent_by (B.reaction b) plan until kept line n) (world_after (B.reaction b) plan until kept n) }
+{}
+
+/// What one event sends: at most `MostSent` on one channel (`few`), and only on channels on which its
+/// entity writes (`own`), to entities that there are (`entity`), after delays in range (`delay`).
+pub fn events_send_little<B: Behaviour>()
+    ensures few { (b : B) (plan : Plan B B.State B.Payload) (until : ℕ) (kept : KeyValue → Bool) → Fits (B.valid b) (B.carried b) plan → until ≤ LatestTime
+        → (n : ℕ) (e : Event B.Payload) (writer : Entity B B.State B.Payload) → run_event (B.reaction b) plan until kept n ≡ Some e
+        → slice_get (world_after (B.reaction b) plan until kept n).state.entities e.entity ≡ Some writer
+        → (c : ℕ) → count_by (is_on c) (sent_by (B.reaction b) plan.mappings e writer) ≤ MostSent }
+    ensures own { (b : B) (plan : Plan B B.State B.Payload) (until : ℕ) (kept : KeyValue → Bool) → Fits (B.valid b) (B.carried b) plan → until ≤ LatestTime
+        → (n : ℕ) (e : Event B.Payload) (writer : Entity B B.State B.Payload) → run_event (B.reaction b) plan until kept n ≡ Some e
+        → slice_get (world_after (B.reaction b) plan until kept n).state.entities e.entity ≡ Some writer
+        → (s : Sent B.Payload) → Among s (sent_by (B.reaction b) plan.mappings e writer) → IsWriterOn plan e.entity s.channel }
+    ensures entity { (b : B) (plan : Plan B B.State B.Payload) (until : ℕ) (kept : KeyValue → Bool) → Fits (B.valid b) (B.carried b) plan → until ≤ LatestTime
+        → (n : ℕ) (e : Event B.Payload) (writer : Entity B B.State B.Payload) → run_event (B.reaction b) plan until kept n ≡ Some e
+        → slice_get (world_after (B.reaction b) plan until kept n).state.entities e.entity ≡ Some writer
+        → (s : Sent B.Payload) → Among s (sent_by (B.reaction b) plan.mappings e writer) → s.entity < length plan.entities }
+    ensures delay { (b : B) (plan : Plan B B.State B.Payload) (until : ℕ) (kept : KeyValue → Bool) → Fits (B.valid b) (B.carried b) plan → until ≤ LatestTime
+        → (n : ℕ) (e : Event B.Payload) (writer : Entity B B.State B.Payload) → run_event (B.reaction b) plan until kept n ≡ Some e
+        → slice_get (world_after (B.reaction b) plan until kept n).state.entities e.entity ≡ Some writer
+        → (s : Sent B.Payload) → Among s (sent_by (B.reaction b) plan.mappings e writer) → s.delay ≤ 2 * LongestDelay }
+{}
+
+/// The entries of a run are of the plan's entities.
+pub fn entries_have_entities<B: Behaviour>()
+    ensures { (b : B) (plan : Plan B B.State B.Payload) (until : ℕ) (kept : KeyValue → Bool) → Fits (B.valid b) (B.carried b) plan → until ≤ LatestTime
+        → (n : ℕ) → All (λ (e : Entry). e.entity < length plan.entities) (run_entries (B.reaction b) plan until kept n) }
+{}
+
+/// The run goes on from any of its worlds: after n events and k more it is where k events lead from
+/// the world after n (`worlds`), and so are its entries (`entries`).
+pub fn runs_go_on<B: Behaviour>()
+    ensures worlds { (b : B) (plan : Plan B B.State B.Payload) (until : ℕ) (kept : KeyValue → Bool) (n k : ℕ)
+        → world_after (B.reaction b) plan until kept (k + n) ≡ after (machine_of (B.reaction b) plan.mappings) until kept (world_after (B.reaction b) plan until kept n) k }
+    ensures entries { (b : B) (plan : Plan B B.State B.Payload) (until : ℕ) (kept : KeyValue → Bool) (n k : ℕ)
+        → run_entries (B.reaction b) plan until kept (k + n)
+        ≡ run_entries (B.reaction b) plan until kept n ++ entries_from (B.reaction b) plan.mappings until kept (world_after (B.reaction b) plan until kept n) k }
+{}
+
+/// A run to a smaller end passes through the same worlds, by the same events, until it is over.
+pub fn longer_runs_begin_alike<B: Behaviour>()
+    ensures events { (b : B) (plan : Plan B B.State B.Payload) (until later : ℕ) (kept : KeyValue → Bool) → until ≤ later
+        → (n : ℕ) (e : Event B.Payload) → run_event (B.reaction b) plan until kept n ≡ Some e → run_event (B.reaction b) plan later kept n ≡ Some e }
+    ensures worlds { (b : B) (plan : Plan B B.State B.Payload) (until later : ℕ) (kept : KeyValue → Bool) → until ≤ later
+        → (n : ℕ) (e : Event B.Payload) → run_event (B.reaction b) plan until kept n ≡ Some e
+        → world_after (B.reaction b) plan later kept (suc n) ≡ world_after (B.reaction b) plan until kept (suc n) }
 {}
 
 /// A run with a cut ends.
@@ -117,94 +215,97 @@ pub fn cut_keeps_first<B: Behaviour>()
 {}
 
 /// Entities are numbered by timelines, and the two ends of each mapping without delay are on one.
-/// Where no timeline has more than `most` events, no cut at a round of at least `most` drops
-/// anything: the events and their entries are those of the run that drops nothing. The events are
-/// counted in the run with the cut (`cut`), or in the one without (`whole`).
+/// Where no timeline has more than `most` events, no cut that keeps all rounds up to `most` drops
+/// anything: under any two of them the run has the same events and the same entries.
 pub fn few_events_are_not_cut<B: Behaviour>()
-    ensures cut { (b : B) (plan : Plan B B.State B.Payload) (until : ℕ) (line : ℕ → ℕ) → Fits (B.valid b) (B.carried b) plan → until ≤ LatestTime → IsAligned plan line
-        → (R most : ℕ) → most ≤ R → ((i n : ℕ) → length (line_events (B.reaction b) plan until (within R) line i n) ≤ most)
-        → (n : ℕ) → run_events (B.reaction b) plan until (within R) n ≡ run_events (B.reaction b) plan until all_kept n }
-    ensures whole { (b : B) (plan : Plan B B.State B.Payload) (until : ℕ) (line : ℕ → ℕ) → Fits (B.valid b) (B.carried b) plan → until ≤ LatestTime → IsAligned plan line
-        → (R most : ℕ) → most ≤ R → ((i n : ℕ) → length (line_events (B.reaction b) plan until all_kept line i n) ≤ most)
-        → (n : ℕ) → run_events (B.reaction b) plan until (within R) n ≡ run_events (B.reaction b) plan until all_kept n }
-    ensures cut_entries { (b : B) (plan : Plan B B.State B.Payload) (until : ℕ) (line : ℕ → ℕ) → Fits (B.valid b) (B.carried b) plan → until ≤ LatestTime → IsAligned plan line
-        → (R most : ℕ) → most ≤ R → ((i n : ℕ) → length (line_events (B.reaction b) plan until (within R) line i n) ≤ most)
-        → (n : ℕ) → run_entries (B.reaction b) plan until (within R) n ≡ run_entries (B.reaction b) plan until all_kept n }
-    ensures whole_entries { (b : B) (plan : Plan B B.State B.Payload) (until : ℕ) (line : ℕ → ℕ) → Fits (B.valid b) (B.carried b) plan → until ≤ LatestTime → IsAligned plan line
-        → (R most : ℕ) → most ≤ R → ((i n : ℕ) → length (line_events (B.reaction b) plan until all_kept line i n) ≤ most)
-        → (n : ℕ) → run_entries (B.reaction b) plan until (within R) n ≡ run_entries (B.reaction b) plan until all_kept n }
+    ensures events { (b : B) (plan : Plan B B.State B.Payload) (until most : ℕ) (kept other : KeyValue → Bool) (line : ℕ → ℕ) (net : Net)
+        → Fits (B.valid b) (B.carried b) plan → until ≤ LatestTime → IsAligned plan line → KeepsRounds most kept → KeepsRounds most other
+        → AreFew (scene_of (B.reaction b) plan until kept line net) most
+        → (n : ℕ) → run_events (B.reaction b) plan until kept n ≡ run_events (B.reaction b) plan until other n }
+    ensures entries { (b : B) (plan : Plan B B.State B.Payload) (until most : ℕ) (kept other : KeyValue → Bool) (line : ℕ → ℕ) (net : Net)
+        → Fits (B.valid b) (B.carried b) plan → until ≤ LatestTime → IsAligned plan line → KeepsRounds most kept → KeepsRounds most other
+        → AreFew (scene_of (B.reaction b) plan until kept line net) most
+        → (n : ℕ) → run_entries (B.reaction b) plan until kept n ≡ run_entries (B.reaction b) plan until other n }
 {}
 
 /// A channel's count is that of the opening and one more for each write on it, whether the cut keeps
 /// it or not.
 pub fn channels_count_their_writes<B: Behaviour>()
-    ensures { (b : B) (plan : Plan B B.State B.Payload) (until : ℕ) (kept : KeyValue → Bool) (c n : ℕ)
-        → (world_after (B.reaction b) plan until kept n).state.counts c ≡ counts_of plan.counts c + length (writes_on (B.reaction b) plan until kept c n) }
+    ensures { (b : B) (plan : Plan B B.State B.Payload) (until : ℕ) (kept : KeyValue → Bool) (line : ℕ → ℕ) (net : Net) (c n : ℕ)
+        → (world_after (B.reaction b) plan until kept n).state.counts c
+        ≡ counts_of plan.counts c + length (writes_on (scene_of (B.reaction b) plan until kept line net) c n) }
 {}
 
-/// The write on channel c before which the run wrote k times on it is on channel c, and its number is
-/// the opening's count of c and k together.
+/// The write at place k of a channel is a write on this channel (`channel`), and its number is the
+/// opening's count of the channel and k together (`number`).
 pub fn writes_are_numbered<B: Behaviour>()
-    ensures channel { (b : B) (plan : Plan B B.State B.Payload) (until : ℕ) (kept : KeyValue → Bool) (c k : ℕ) (d : Event B.Payload)
-        → IsWrite (B.reaction b) plan until kept c k d → d.key.channel ≡ c }
-    ensures number { (b : B) (plan : Plan B B.State B.Payload) (until : ℕ) (kept : KeyValue → Bool) (c k : ℕ) (d : Event B.Payload)
-        → IsWrite (B.reaction b) plan until kept c k d → d.key.number ≡ counts_of plan.counts c + k }
+    ensures channel { (b : B) (plan : Plan B B.State B.Payload) (until : ℕ) (kept : KeyValue → Bool) (line : ℕ → ℕ) (net : Net) (c k : ℕ) (d : Event B.Payload)
+        → IsWrite (scene_of (B.reaction b) plan until kept line net) c k d → d.key.channel ≡ c }
+    ensures number { (b : B) (plan : Plan B B.State B.Payload) (until : ℕ) (kept : KeyValue → Bool) (line : ℕ → ℕ) (net : Net) (c k : ℕ) (d : Event B.Payload)
+        → IsWrite (scene_of (B.reaction b) plan until kept line net) c k d → d.key.number ≡ counts_of plan.counts c + k }
 {}
 
-/// A write has one place on its channel, and at one place of a channel stands one write.
-pub fn places_are_apart<B: Behaviour>()
-    ensures place { (b : B) (plan : Plan B B.State B.Payload) (until : ℕ) (kept : KeyValue → Bool) (c j k : ℕ) (d : Event B.Payload)
-        → IsWrite (B.reaction b) plan until kept c j d → IsWrite (B.reaction b) plan until kept c k d → j ≡ k }
-    ensures write { (b : B) (plan : Plan B B.State B.Payload) (until : ℕ) (kept : KeyValue → Bool) (c k : ℕ) (d e : Event B.Payload)
-        → IsWrite (B.reaction b) plan until kept c k d → IsWrite (B.reaction b) plan until kept c k e → d ≡ e }
+/// A write has one place on its channel.
+pub fn writes_have_one_place<B: Behaviour>()
+    ensures { (b : B) (plan : Plan B B.State B.Payload) (until : ℕ) (kept : KeyValue → Bool) (line : ℕ → ℕ) (net : Net) (c j k : ℕ) (d : Event B.Payload)
+        → IsWrite (scene_of (B.reaction b) plan until kept line net) c j d → IsWrite (scene_of (B.reaction b) plan until kept line net) c k d → j ≡ k }
+{}
+
+/// At one place of a channel stands one write, in the run of any machine.
+pub fn places_have_one_write<X, E>()
+    ensures { (s : Scene X E) (c k : ℕ) (d e : E) → IsWrite s c k d → IsWrite s c k e → d ≡ e }
 {}
 
 /// What some event of a run writes has a place on its channel, and what has a place was written by
 /// some event.
-pub fn writes_have_places<B: Behaviour>()
-    ensures place { (b : B) (plan : Plan B B.State B.Payload) (until : ℕ) (kept : KeyValue → Bool) (d : Event B.Payload)
-        → IsRunWrite (B.reaction b) plan until kept d → (k : ℕ) × IsWrite (B.reaction b) plan until kept d.key.channel k d }
-    ensures written { (b : B) (plan : Plan B B.State B.Payload) (until : ℕ) (kept : KeyValue → Bool) (c k : ℕ) (d : Event B.Payload)
-        → IsWrite (B.reaction b) plan until kept c k d → IsRunWrite (B.reaction b) plan until kept d }
+pub fn writes_have_places<X, E>()
+    ensures place { (s : Scene X E) (d : E) → IsRunWrite s d → (k : ℕ) × IsWrite s (channel_of s d) k d }
+    ensures written { (s : Scene X E) (c k : ℕ) (d : E) → IsWrite s c k d → IsRunWrite s d }
 {}
 
 /// A promise of channel c, with a bound and a count n, holds exactly where each write of the run on c
 /// at a time below the bound has a number below the sum of the opening's count of c and n.
 pub fn promises_bound_numbers<B: Behaviour>()
-    ensures tells { (b : B) (plan : Plan B B.State B.Payload) (until : ℕ) (kept : KeyValue → Bool) (c bound n : ℕ) → IsPromise (B.reaction b) plan until kept c bound n
-        → (d : Event B.Payload) → IsRunWrite (B.reaction b) plan until kept d → d.key.channel ≡ c → d.key.time < bound → d.key.number < counts_of plan.counts c + n }
-    ensures told { (b : B) (plan : Plan B B.State B.Payload) (until : ℕ) (kept : KeyValue → Bool) (c bound n : ℕ)
-        → ((d : Event B.Payload) → IsRunWrite (B.reaction b) plan until kept d → d.key.channel ≡ c → d.key.time < bound → d.key.number < counts_of plan.counts c + n)
-        → IsPromise (B.reaction b) plan until kept c bound n }
+    ensures tells { (b : B) (plan : Plan B B.State B.Payload) (until : ℕ) (kept : KeyValue → Bool) (line : ℕ → ℕ) (net : Net) (c bound n : ℕ)
+        → IsPromise (scene_of (B.reaction b) plan until kept line net) c bound n
+        → (d : Event B.Payload) → IsRunWrite (scene_of (B.reaction b) plan until kept line net) d → d.key.channel ≡ c → d.key.time < bound
+        → d.key.number < counts_of plan.counts c + n }
+    ensures told { (b : B) (plan : Plan B B.State B.Payload) (until : ℕ) (kept : KeyValue → Bool) (line : ℕ → ℕ) (net : Net) (c bound n : ℕ)
+        → ((d : Event B.Payload) → IsRunWrite (scene_of (B.reaction b) plan until kept line net) d → d.key.channel ≡ c → d.key.time < bound
+            → d.key.number < counts_of plan.counts c + n)
+        → IsPromise (scene_of (B.reaction b) plan until kept line net) c bound n }
+{}
+
+/// Two stretches of a channel, of which one ends where the other begins, are one.
+pub fn stretches_join<X, E>()
+    ensures { (s : Scene X E) (c first between end : ℕ) (xs ys : List E) → IsStretch s c first xs between → IsStretch s c between ys end → IsStretch s c first (xs ++ ys) end }
+{}
+
+/// A stretch of a channel from place `first` on is just a list of writes of the run on the channel,
+/// whose numbers are the opening's count and `first` together and those that follow (`tells`, `told`).
+/// It ends after as many places as it has events (`end`).
+pub fn stretches_by_numbers<B: Behaviour>()
+    ensures end { (b : B) (plan : Plan B B.State B.Payload) (until : ℕ) (kept : KeyValue → Bool) (line : ℕ → ℕ) (net : Net) (c first end : ℕ) (ds : List (Event B.Payload))
+        → IsStretch (scene_of (B.reaction b) plan until kept line net) c first ds end → end ≡ first + length ds }
+    ensures tells { (b : B) (plan : Plan B B.State B.Payload) (until : ℕ) (kept : KeyValue → Bool) (line : ℕ → ℕ) (net : Net) (c first end : ℕ) (ds : List (Event B.Payload))
+        → IsStretch (scene_of (B.reaction b) plan until kept line net) c first ds end → (j : ℕ) (d : Event B.Payload) → slice_get ds j ≡ Some d
+        → IsRunWrite (scene_of (B.reaction b) plan until kept line net) d × (d.key.channel ≡ c) × (d.key.number ≡ counts_of plan.counts c + (first + j)) }
+    ensures told { (b : B) (plan : Plan B B.State B.Payload) (until : ℕ) (kept : KeyValue → Bool) (line : ℕ → ℕ) (net : Net) (c first end : ℕ) (ds : List (Event B.Payload))
+        → end ≡ first + length ds
+        → ((j : ℕ) (d : Event B.Payload) → slice_get ds j ≡ Some d
+            → IsRunWrite (scene_of (B.reaction b) plan until kept line net) d × (d.key.channel ≡ c) × (d.key.number ≡ counts_of plan.counts c + (first + j)))
+        → IsStretch (scene_of (B.reaction b) plan until kept line net) c first ds end }
 {}
 
 /// Two true parcels of one channel have the same event at the same place of the channel.
-pub fn true_parcels_agree<B: Behaviour>()
-    ensures { (b : B) (plan : Plan B B.State B.Payload) (until : ℕ) (kept : KeyValue → Bool) (first second : Bool) (c : ℕ) (p q : Parcel B.Payload)
-        → IsTrueParcel (B.reaction b) plan until kept first c p → IsTrueParcel (B.reaction b) plan until kept second c q
-        → (i j : ℕ) (d e : Event B.Payload) → p.first + i ≡ q.first + j → slice_get p.events i ≡ Some d → slice_get q.events j ≡ Some e → d ≡ e }
+pub fn true_parcels_agree<X, E>()
+    ensures { (s : Scene X E) (c first end bound first2 end2 bound2 : ℕ) (ds es : List E) → IsTrueParcel s c first ds end bound → IsTrueParcel s c first2 es end2 bound2
+        → (i j : ℕ) (d e : E) → first + i ≡ first2 + j → slice_get ds i ≡ Some d → slice_get es j ≡ Some e → d ≡ e }
 {}
 
 /// A true parcel of an appointed channel leaves nothing out: each write of the run on the channel at a
-/// time below the parcel's promise went before the parcel, by its number, or is one of its events.
-pub fn true_parcels_are_whole<B: Behaviour>()
-    ensures { (b : B) (plan : Plan B B.State B.Payload) (until : ℕ) (kept : KeyValue → Bool) (c : ℕ) (parcel : Parcel B.Payload) → IsTrueParcel (B.reaction b) plan until kept true c parcel
-        → (d : Event B.Payload) → IsRunWrite (B.reaction b) plan until kept d → d.key.channel ≡ c → d.key.time < parcel.promise
-        → (d.key.number < counts_of plan.counts c + parcel.first) ⊎ Among d parcel.events }
-{}
-
-/// A parcel is true exactly where its events are writes of the run on the channel, whose numbers are
-/// the opening's count and `first` together and those that follow (`events`), and, on an appointed
-/// channel, its promise is at most one past the end and each write of the run on the channel at a time
-/// below it has a number below that after its last event (`promise`). `told` is the converse of both.
-pub fn true_parcels_by_numbers<B: Behaviour>()
-    ensures events { (b : B) (plan : Plan B B.State B.Payload) (until : ℕ) (kept : KeyValue → Bool) (appointed : Bool) (c : ℕ) (parcel : Parcel B.Payload) → IsTrueParcel (B.reaction b) plan until kept appointed c parcel
-        → (j : ℕ) (d : Event B.Payload) → slice_get parcel.events j ≡ Some d → IsRunWrite (B.reaction b) plan until kept d × (d.key.channel ≡ c) × (d.key.number ≡ counts_of plan.counts c + (parcel.first + j)) }
-    ensures promise { (b : B) (plan : Plan B B.State B.Payload) (until : ℕ) (kept : KeyValue → Bool) (c : ℕ) (parcel : Parcel B.Payload) → IsTrueParcel (B.reaction b) plan until kept true c parcel
-        → (parcel.promise ≤ until + 1) × ((d : Event B.Payload) → IsRunWrite (B.reaction b) plan until kept d → d.key.channel ≡ c → d.key.time < parcel.promise → d.key.number < counts_of plan.counts c + (parcel.first + length parcel.events)) }
-    ensures told { (b : B) (plan : Plan B B.State B.Payload) (until : ℕ) (kept : KeyValue → Bool) (appointed : Bool) (c : ℕ) (parcel : Parcel B.Payload)
-        → ((j : ℕ) (d : Event B.Payload) → slice_get parcel.events j ≡ Some d → IsRunWrite (B.reaction b) plan until kept d × (d.key.channel ≡ c) × (d.key.number ≡ counts_of plan.counts c + (parcel.first + j)))
-        → (appointed ≡ true → parcel.promise ≤ until + 1)
-        → (appointed ≡ true → (d : Event B.Payload) → IsRunWrite (B.reaction b) plan until kept d → d.key.channel ≡ c → d.key.time < parcel.promise → d.key.number < counts_of plan.counts c + (parcel.first + length parcel.events))
-        → IsTrueParcel (B.reaction b) plan until kept appointed c parcel }
+/// time below the parcel's promise has a place before the parcel, or is one of its events.
+pub fn true_parcels_are_whole<X, E>()
+    ensures { (s : Scene X E) (c first end bound : ℕ) (ds : List E) → s.net.appointed c ≡ true → IsTrueParcel s c first ds end bound
+        → (k : ℕ) (d : E) → IsWrite s c k d → time_of s d < bound → (k < first) ⊎ Among d ds }
 {}

@@ -7,4 +7,5 @@ pub mod Owners
 pub mod Reaction
 pub mod Run
 pub mod Wake
+pub mod Scene
 pub mod Truth

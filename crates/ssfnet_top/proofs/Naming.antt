@@ -15,19 +15,17 @@ use Rattle.ring_model.specs.Reacting.{IsRing, AnyPayload, ring_reaction}
 use Rattle.ring_model.specs.RingLaws.{ring_sound, ring_modest}
 use Rattle.net_build.specs.declared.built.Built.{Built}
 use Rattle.net_build.specs.RingModel.{RingKeys, Read, then_read, ring_of, built_of, build, ring_plan_of, is_long}
-use Rattle.global_list.specs.Entries.{run_entries}
-use Rattle.global_list.specs.Healthy.{IsRunnable}
-use Rattle.plan_opening.proofs.Named.{entries_named}
+use Rattle.ssf_model.specs.Run.{Fits, run_entries}
+use Rattle.run_laws.proofs.Continuing.{entries_named}
 
 -- each entry of a ring's run has a name where each entity has one
-pub names_fit : (plan : Plan Ring RingState RingPayload) (until budget names : ℕ) (entries given : List Entry) → until ≤ LatestTime → IsRunnable IsRing AnyPayload plan
+pub names_fit : (plan : Plan Ring RingState RingPayload) (until budget names : ℕ) (entries given : List Entry) → until ≤ LatestTime → Fits IsRing AnyPayload plan
     → length entries ≤ budget → ((R : ℕ) → budget ≤ R → entries ≡ run_entries ring_reaction plan until (within R) (length entries)) → names ≡ length plan.entities
     → given ≡ entries → All (λ (e : Entry). e.entity < names) given
-names_fit plan until budget names entries given in_time runnable few prefix named same =
-    let some : length entries ≤ suc budget = omega arith in
+names_fit plan until budget names entries given in_time fits few prefix named same =
     let reached : budget ≤ budget = omega arith in
     let all : All (λ (e : Entry). e.entity < length plan.entities) (run_entries ring_reaction plan until (within budget) (length entries)) =
-    entries_named ring_reaction IsRing AnyPayload ring_sound ring_modest plan until budget (length entries) in_time runnable some in
+    entries_named ring_reaction IsRing AnyPayload ring_sound ring_modest plan until in_time fits (within budget) (length entries) in
     let Q : List Entry → Type 0 = λ es. All (λ (e : Entry). e.entity < length plan.entities) es in
     let N : ℕ → Type 0 = λ n. All (λ (e : Entry). e.entity < n) given in
     subst N (sym named) (subst Q (sym (same ∙ prefix budget reached)) all)

@@ -1,7 +1,7 @@
 //! The command `seq`: the plan of a model, its run by one event list, and the trace.
 ghost use Rattle.std.specs.Prelude.{◌≡◌, ◌≤◌, ◌<◌, ◌⊎◌, [], length, map, string_bytes, All, IfOk, IfErr, OnOk, OnErr};
 ghost use Rattle.ring_model.specs.Reacting.{IsRing, AnyPayload, ring_reaction};
-ghost use Rattle.global_list.specs.Healthy.{IsRunnable};
+ghost use Rattle.ssf_model.specs.Run.{Fits};
 ghost use Rattle.ssfnet_top.specs.Words.{LatestUntil, LargestBudget};
 ghost use Rattle.sim_base.specs.Outside.{Rose, Appends, AppendsPrefix};
 ghost use Rattle.trace_writer.specs.Trace.{entries_text, trace_text};
@@ -57,7 +57,7 @@ fn build_ring(alloc: Global, names: &[String], tree: &Tree) -> Result<Built<Ring
     ensures model { IfOk result (λ built. model_of (map string_bytes names.now) tree.now ≡ Ok built) }
     ensures cause { IfErr result (λ r. (r ≡ Refusal.Memory) ⊎ (model_of (map string_bytes names.now) tree.now ≡ Err r)) }
     ensures refusal { IfErr result (λ r. IsOfModel (map string_bytes names.now) r) }
-    ensures runnable { IfOk result (λ built. IsRunnable IsRing AnyPayload built.plan) }
+    ensures runnable { IfOk result (λ built. Fits IsRing AnyPayload built.plan) }
     ensures named { IfOk result (λ built. length built.names.names ≡ length built.plan.entities) }
     ensures before { IfOk result (λ built. built.plan.before ≡ 0) }
 {
@@ -81,7 +81,7 @@ fn simulate<K: Sink>(
     budget: u64,
     out: &mut K,
 ) -> Result<(), Refusal>
-    requires plan { IsRunnable IsRing AnyPayload built.plan }
+    requires plan { Fits IsRing AnyPayload built.plan }
     requires named { length built.names.names ≡ length built.plan.entities }
     requires before { built.plan.before ≡ 0 }
     requires until { until ≤ LatestUntil }

@@ -1,5 +1,4 @@
 use Rattle.std.proofs.Common.{inl, inr, Some, Ok, ap, sym, ◌∙◌}
-use Rattle.global_list.proofs.Fitting.{fits_runnable}
 use Rattle.net_build.proofs.Plans.{build_refused, build_fits, same_built}
 use Rattle.net_build.proofs.Runs.{ring_named}
 use Rattle.net_build.proofs.ring.build_ring.Goals as goal
@@ -19,7 +18,7 @@ returns-clause-built c =
     c.in-Ok.ensures.made.1 c.in_ok-plan.ensures.plan c.in_ok-names.ensures c.in_ok-nets.ensures)
 
 pub returns-clause-runnable : goal.returns-clause-runnable
-returns-clause-runnable c = fits_runnable _ _ _ c.in_ok-plan.ensures.fits
+returns-clause-runnable c = c.in_ok-plan.ensures.fits
 
 pub returns-clause-named : goal.returns-clause-named
 returns-clause-named c =

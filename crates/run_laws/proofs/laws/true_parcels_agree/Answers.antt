@@ -2,4 +2,4 @@ use Rattle.run_laws.proofs.ByPlace.{parcels_agree}
 use Rattle.run_laws.proofs.laws.true_parcels_agree.Goals as goal
 
 pub returns : goal.returns
-returns g c = λ b plan until kept. parcels_agree (g.B.Behaviour.reaction b) plan until kept
+returns g c = λ s. parcels_agree s

@@ -7,7 +7,7 @@ pub execute-requires-after_bounds : goal.execute-requires-after_bounds
 execute-requires-after_bounds g c κs within =
     let old = c.args.self.now in
     may_next (g.B.Behaviour.reaction old.behaviour) old.fan_out c.args.until (g.B.Behaviour.valid old.behaviour) (g.B.Behaviour.carried old.behaviour)
-    (g.met.B.Behaviour.sound old.behaviour) (g.met.B.Behaviour.modest old.behaviour) c.requires.until
+    (g.met.B.Behaviour.sound old.behaviour) (g.met.B.Behaviour.modest old.behaviour)
     old.entities.items old.agenda.counts.items old.agenda.pending c.take_due.new.self c.in-Some.event c.in-Some.ensures.taken (sym c.in-Some.ensures.due) c.requires
 
 pub returns-clause-next : goal.returns-clause-next

@@ -1,6 +1,6 @@
 -- What an event makes of an entity in a valid state: it stays valid, no process loses its timer channel, tickets rise
 -- by at most one, and what is written is in range.
-use Rattle.std.proofs.Common.{◌≡◌, ℕ, ◌+◌, ◌<◌, ◌≤◌, Bool, true, false, cond, ◌&&◌, nat_eq, List, [], ◌∷◌, ◌++◌, map, length, refl, sym, ap, subst, arith, count_by, append_assoc, Option, Some, None, IfSome, slice_get, slice_set, eqb-true}
+use Rattle.std.proofs.Common.{◌≡◌, ℕ, ◌+◌, ◌<◌, ◌≤◌, Bool, true, false, cond, ◌&&◌, nat_eq, List, [], ◌∷◌, ◌++◌, map, length, refl, sym, ap, subst, arith, count_by, append_assoc, ◌∙◌, is_some, Option, Some, None, IfSome, slice_get, slice_set, eqb-true}
 use Rattle.event_order.specs.Pending.{Among}
 use Rattle.ssf_model.specs.declared.wait.Wait.{Wait}
 use Rattle.ssf_model.specs.declared.wait.Wait.TheVariants.{On, For, OnFor, Forever}
@@ -12,10 +12,22 @@ use Rattle.ssf_model.specs.declared.out.Written.{Written}
 use Rattle.ssf_model.specs.declared.out.Written.TheVariants.{Channel, Timer as TimerWrite}
 use Rattle.ssf_model.specs.declared.process.Process.{Process}
 use Rattle.ssf_model.specs.Wake.{waits_on, timer_delay, HasTimer}
-use Rattle.ssf_model.specs.Reaction.{Reaction, Validity, KeepsValid, IsOwnWrite, IsOwnWait, LatestTime, LongestDelay, is_timed, wait_of, Admits, Carries, Each}
+use Rattle.ssf_model.specs.Reaction.{Reaction, Validity, KeepsValid, IsOwnWrite, IsOwnWait, LatestTime, LongestDelay, is_timed, wait_of, Admits, Carries, Each, channels_named}
 use Rattle.ssf_model.specs.Deliver.{wake_of, timer_write, reacted, Reacted, delivered, Delivered, IsTimely, IsCarried}
-use Rattle.global_list.specs.Healthy.{IsGivenBy, IsGiven}
-use Rattle.global_list.proofs.Posts.{each_append, count_append, count_cons}
+use Rattle.run_laws.specs.Healthy.{IsWaiting}
+use Rattle.run_laws.proofs.Lists.{each_append, count_append, count_cons}
+
+-- ---- tickets
+
+-- a ticket that a process gave out: it is the present one only while the process waits for its timer
+pub record IsGivenBy (ticket : ℕ) (p : Process) : Type 0 where
+  pub given : ticket ≤ p.ticket
+  pub present : ticket ≡ p.ticket → HasTimer p.wait
+
+abbrev pub IsGiven : {P : Type 0} → Kind P → List Process → Type 0
+IsGiven (Timer process ticket) ps = IfSome (slice_get ps process) (IsGivenBy ticket)
+IsGiven Begin ps = Unit {0}
+IsGiven (Message channel payload) ps = Unit {0}
 
 -- ---- processes before and after
 
@@ -159,6 +171,12 @@ count_two : {T U : Type 0} (f : T → Bool) (xs ys : List T) (g : U → Bool) (p
     count_by f (xs ++ ys) ≤ count_by g (p ∷ ps)
 count_two f xs ys g p ps a b = rw (count_append f xs ys, count_cons g p ps) (omega arith)
 
+named_own : (ins : List ℕ) (wait : Wait) → IsOwnWait ins wait → Each (λ c. Among c ins) (channels_named wait)
+named_own ins (On channels) own = own
+named_own ins (For ticks) own = tt
+named_own ins (OnFor channels ticks) own = own.0
+named_own ins Forever own = tt
+
 snoc : (done : List Process) (q : Process) (xs : List Process) → (done ++ q ∷ []) ++ xs ≡ done ++ q ∷ xs
 snoc done q xs = append_assoc done (q ∷ []) xs
 
@@ -183,6 +201,7 @@ module _ {S P : Type 0} (valid : Validity S) (carried : P → Type 0) (r : React
     pub made : (whole : List Process) → slice_get whole (length done) ≡ Some a.process → Each (IsMade carried whole) a.writes
     pub timers : count_by is_timer a.writes ≤ cond (is_timed p) 1 0
     pub owned : Each (IsOnOwn outs) a.writes
+    pub waits : IsWaiting ins p → IsWaiting ins a.process
 
   turn_by : (done ps : List Process) (p : Process) (s : S) (w : Option (Wake P)) → valid s ins outs (map is_timed (done ++ p ∷ ps)) (map wait_of (done ++ p ∷ ps)) →
       ((wake : Wake P) → w ≡ Some wake → Admits p.wait wake) → ((wake : Wake P) → w ≡ Some wake → Carries carried wake) →
@@ -193,6 +212,7 @@ module _ {S P : Type 0} (valid : Validity S) (carried : P → Type 0) (r : React
     made = λ whole e. tt;
     timers = omega arith;
     owned = tt;
+    waits = λ h. h;
   }
   turn_by done ps p s (Some wake) v a k =
       let o = r s (length done) now wake in
@@ -223,6 +243,10 @@ module _ {S P : Type 0} (valid : Validity S) (carried : P → Type 0) (r : React
         );
         owned = each_append (IsOnOwn outs) o.writes (timer_write (length done) (p.ticket + 1) (timer_delay o.wait))
             (own_owned carried outs o.writes keeps.own_writes) (timer_owned P outs (length done) (p.ticket + 1) o.wait);
+        waits = λ h. record {
+          waits = named_own ins o.wait keeps.own_wait;
+          untimed = λ none t. keeps.untimed (found_at is_timed done ps p ∙ ap (λ (c : Option ℕ). Some (is_some c)) none) t;
+        };
       }
 
   pub record Outcomes (done ps : List Process) (d : Delivered S P) : Type 0 where
@@ -231,10 +255,11 @@ module _ {S P : Type 0} (valid : Validity S) (carried : P → Type 0) (r : React
     pub made : Each (IsMade carried (done ++ d.processes)) d.writes
     pub timers : count_by is_timer d.writes ≤ count_by is_timed ps
     pub owned : Each (IsOnOwn outs) d.writes
+    pub waits : Each (IsWaiting ins) ps → Each (IsWaiting ins) d.processes
 
   pub outcomes : (done ps : List Process) (i : ℕ) (s : S) → i ≡ length done → valid s ins outs (map is_timed (done ++ ps)) (map wait_of (done ++ ps)) →
       AdmitsFrom kind i ps → Outcomes done ps (delivered r now kind i s ps)
-  outcomes done [] i s e v a = record { stays = v; moved = tt; made = tt; timers = omega arith; owned = tt }
+  outcomes done [] i s e v a = record { stays = v; moved = tt; made = tt; timers = omega arith; owned = tt; waits = λ h. tt }
   outcomes done (p ∷ ps) i s e v a =
       let first = reacted r now i s p (wake_of kind i p) in
       let turn : Turn done ps p first = subst (λ j. Turn done ps p (reacted r now j s p (wake_of kind i p))) (sym e)
@@ -251,4 +276,5 @@ module _ {S P : Type 0} (valid : Validity S) (carried : P → Type 0) (r : React
             (subst (λ whole. Each (IsMade carried whole) later.writes) (snoc done q later.processes) rest.made);
         timers = count_two (is_timer {P = P}) first.writes later.writes is_timed p ps turn.timers rest.timers;
         owned = each_append (IsOnOwn outs) first.writes later.writes turn.owned rest.owned;
+        waits = λ h. (turn.waits h.0, rest.waits h.1);
       }

@@ -1,0 +1,5 @@
+use Rattle.run_laws.proofs.ByPlace.{one_write}
+use Rattle.run_laws.proofs.laws.places_have_one_write.Goals as goal
+
+pub returns : goal.returns
+returns g c = λ s. one_write s

@@ -1,0 +1,5 @@
+use Rattle.run_laws.proofs.ByPlace.{stretch_joined}
+use Rattle.run_laws.proofs.laws.stretches_join.Goals as goal
+
+pub returns : goal.returns
+returns g c = λ s. stretch_joined s
