@@ -14,13 +14,10 @@ use Rattle.ssf_model.specs.Deliver.{IsTimely}
 use Rattle.ssf_model.specs.Entities.{IsValidEntity}
 use Rattle.ssf_model.specs.Channels.{sent_by}
 use Rattle.ssf_model.specs.Run.{States, counts_of, acts_at, writes_at, machine_of, world_after, Fits}
+use Rattle.run_laws.specs.Healthy.{MostEvents}
 use Rattle.global_list.specs.Pending.{key_of}
 use Rattle.global_list.specs.Posting.{MayPost}
 use Rattle.ssf_model.specs.Run.{entry_at}
-
--- the most events that are executed
-abbrev pub MostEvents : ℕ
-MostEvents = 1000000000000
 
 abbrev pub states_of : {B S P : Type 0} → List (Entity B S P) → List ℕ → States B S P
 states_of entities counts = record { entities = entities; counts = counts_of counts }
@@ -39,13 +36,11 @@ pub record MayExecute {B S P : Type 0} (valid : Validity S) (r : Reaction S P) (
   pub time : e.key.time ≤ LatestTime
   pub may : MayPost e.key (sent_by r mappings e entity) counts pending
 
--- the event was executed: the entities, counts and pending events before and after, and its entry
-pub record IsExecuted {B S P : Type 0} (r : Reaction S P) (mappings : List Mapping) (e : Event P) (es0 : List (Entity B S P)) (c0 : List ℕ) (p0 : List (Event P))
-    (es1 : List (Entity B S P)) (c1 : List ℕ) (p1 : List (Event P)) (told : Entry) : Type 0 where
-  pub state : states_of es1 c1 ≡ acts_at r mappings (states_of es0 c0) e (slice_get es0 e.entity)
-  pub pending : p1 ≡ put_all key_of (writes_at r mappings (states_of es0 c0) e (slice_get es0 e.entity)) p0
-  pub entry : told ≡ entry_at r es0 e
-  pub size : length c1 ≡ length c0
+-- the event was executed: the world before and after, and its entry
+pub record IsExecuted {B S P : Type 0} (r : Reaction S P) (mappings : List Mapping) (e : Event P) (w0 w1 : World (States B S P) (Event P)) (told : Entry) : Type 0 where
+  pub state : w1.state ≡ acts_at r mappings w0.state e (slice_get w0.state.entities e.entity)
+  pub pending : w1.pending ≡ put_all key_of (writes_at r mappings w0.state e (slice_get w0.state.entities e.entity)) w0.pending
+  pub entry : told ≡ entry_at r w0.state.entities e
 
 -- the list stands after n events of the run of a plan that fits, and can go on
 pub record MayGoOn {B S P : Type 0} (valid : Validity S) (carried : P → Type 0) (r : Reaction S P) (mappings : List Mapping) (last : ℕ) (entities : List (Entity B S P)) (counts : List ℕ) (pending : List (Event P)) : Type 0 where

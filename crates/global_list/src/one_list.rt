@@ -83,7 +83,8 @@ impl<B: Behaviour> OneList<B> {
     /// its actions write becomes pending.
     fn execute(&mut self, alloc: Global, event: &Event<B::Payload>) -> Result<Entry, Memory>
         requires { MayExecute (B.valid self.old.behaviour) (B.reaction self.old.behaviour) self.old.fan_out event.now self.old.entities.items self.old.agenda.counts.items self.old.agenda.pending }
-        ensures executed { IfOk result (λ entry. IsExecuted (B.reaction self.old.behaviour) self.old.fan_out event.now self.old.entities.items self.old.agenda.counts.items self.old.agenda.pending self.new.entities.items self.new.agenda.counts.items self.new.agenda.pending entry) }
+        ensures executed { IfOk result (λ entry. IsExecuted (B.reaction self.old.behaviour) self.old.fan_out event.now (world_of self.old.entities.items self.old.agenda.counts.items self.old.agenda.pending) (world_of self.new.entities.items self.new.agenda.counts.items self.new.agenda.pending) entry) }
+        ensures size { IfOk result (λ _. length self.new.agenda.counts.items ≡ length self.old.agenda.counts.items) }
         ensures behaviour { self.new.behaviour ≡ self.old.behaviour }
         ensures mappings { self.new.fan_out ≡ self.old.fan_out }
     {

@@ -1,5 +1,5 @@
 -- What holds all along the run of a plan that fits, whatever its cut: it stays healthy.
-use Rattle.std.proofs.Common.{◌≡◌, ℕ, zero, suc, ◌+◌, ◌*◌, ◌<◌, ◌≤◌, Bool, true, false, nat_eq, List, [], ◌∷◌, ◌++◌, filter, length, refl, sym, ap, ◌∙◌, subst, inl, inr, arith, count_by, Some, None, slice_get, eqb-true, eq-eqb}
+use Rattle.std.proofs.Common.{◌≡◌, ℕ, zero, suc, ◌+◌, ◌*◌, ◌^◌, ◌<◌, ◌≤◌, Bool, true, false, nat_eq, List, [], ◌∷◌, ◌++◌, filter, length, refl, sym, ap, ◌∙◌, subst, inl, inr, arith, count_by, Some, None, slice_get, eqb-true, eq-eqb}
 use Rattle.event_order.specs.declared.key.Key.{Key}
 use Rattle.event_order.specs.Pending.{Among, put_all}
 use Rattle.event_order.proofs.Pending.{test_cases, among_put_all_other, among_put_all_self, put_all_among, filter_among}
@@ -20,7 +20,7 @@ use Rattle.ssf_model.specs.Run.{States, acts_at, writes_at, machine_of, opening,
 use Rattle.run_laws.specs.Groups.{IsWriterOn}
 use Rattle.run_laws.specs.Joined.{IsAligned}
 use Rattle.run_laws.specs.Writes.{is_on}
-use Rattle.run_laws.specs.Healthy.{MostTicket, MostSent, shape, IsHealthy}
+use Rattle.run_laws.specs.Healthy.{MostEvents, MostTicket, MostSent, shape, spent_by, IsHealthy}
 use Rattle.run_laws.proofs.Lists.{each_among, each_of, place_of, mapped_length}
 use Rattle.run_laws.proofs.Shares.{one_more}
 use Rattle.run_laws.proofs.Healths.{IsSpending, healthy_step, few_sent, fine_sent}
@@ -169,3 +169,29 @@ module _ {B S P : Type 0} (r : Reaction S P) (valid : Validity S) (carried : P �
       let size = mapped_length shape x.entities plan.entities p.healthy.shapes in
       let within = fine.entity in
       (fine.writer, omega arith, fine.delay)
+
+  -- numbers at an event before which its timeline had few
+  module _ (line : ℕ → ℕ) (aligned : IsAligned plan line) (n : ℕ) (e : Event P) (is : run_event r plan until kept n ≡ Some e) (en : Entity B S P)
+      (at : slice_get (world_after r plan until kept n).state.entities e.entity ≡ Some en) (few : spent_by r plan until kept line n e.entity < MostEvents) where
+    healthy_now : IsHealthy valid carried plan (spent_by r plan until kept line n) (world_after r plan until kept n)
+    healthy_now = healthy_along r valid carried law modest plan until in_time fits kept line aligned n
+
+    pub tickets_fit : Each (λ (p : Process). p.ticket + 1 < 2 ^ 64) en.processes
+    tickets_fit = each_of (λ (p : Process). p.ticket ≤ MostTicket + spent_by r plan until kept line n e.entity) (λ (p : Process). p.ticket + 1 < 2 ^ 64) en.processes
+        (λ p low. omega (arith, few)) (healthy_now.entities e.entity en at).tickets
+
+    pub round_fits : e.key.round + 1 < 2 ^ 64
+    round_fits =
+        let low = (healthy_now.pending e (event_pending (machine_of {B = B} r plan.mappings) until kept (opening plan) n e is)).round in omega (arith, few)
+
+    pub counts_fit : (s : Sent P) → Among s (sent_by r plan.mappings e en) →
+        (world_after r plan until kept n).state.counts s.channel + count_by (is_on s.channel) (sent_by r plan.mappings e en) < 2 ^ 64
+    counts_fit s a =
+        let low = healthy_now.counts e.entity s.channel (sends_fine n e is en at s a).0 in
+        let sent = sends_few n e is en at s.channel in omega (arith, few)
+
+  pub times_fit : (n : ℕ) (e : Event P) → run_event r plan until kept n ≡ Some e → (en : Entity B S P) → slice_get (world_after r plan until kept n).state.entities e.entity ≡ Some en →
+      (s : Sent P) → Among s (sent_by r plan.mappings e en) → e.key.time + s.delay < 2 ^ 64
+  times_fit n e is en at s a =
+      let due = (placed n e is).due in
+      let delay = (sends_fine n e is en at s a).2 in omega arith

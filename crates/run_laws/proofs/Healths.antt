@@ -159,7 +159,7 @@ module _ {B S P : Type 0} (r : Reaction S P) (valid : Validity S) (carried : P �
   leads_from m delay payload a w =
       let owned : Among m.out_channel en.out_channels = each_among (IsOnOwn en.out_channels) (delivered_to r e en).writes (Channel m.out_channel delay payload) done.owned w in
       let mapping : IsMappingOf plan.entities m = each_among (IsMappingOf plan.entities) plan.mappings m wired.mappings a in
-      sym (mapping.sole e.entity original.0 original.1 (subst (λ cs. Among m.out_channel cs) (sym (same_outs original.0 en original.2)) owned))
+      wired.outs m.from e.entity m.out_channel mapping.from.0 original.0 mapping.from.1 original.1 mapping.from.2 (subst (λ cs. Among m.out_channel cs) (sym (same_outs original.0 en original.2)) owned)
 
   -- what goes on one channel at this event
   pub few_sent : (c : ℕ) → count_by (is_on c) (sent_by r plan.mappings e en) ≤ MostSent

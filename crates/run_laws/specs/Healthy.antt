@@ -13,7 +13,7 @@ use Rattle.ssf_model.specs.declared.plan.Plan.{Plan}
 use Rattle.ssf_model.specs.Wake.{HasTimer}
 use Rattle.ssf_model.specs.Reaction.{Reaction, Validity, LatestTime, LongestDelay, Each, channels_named}
 use Rattle.ssf_model.specs.Entities.{IsValidEntity}
-use Rattle.ssf_model.specs.Run.{States, IsOnChannel, machine_of, opening}
+use Rattle.ssf_model.specs.Run.{States, IsOnChannel, machine_of, opening, run_event, world_after}
 use Rattle.run_laws.specs.Groups.{IsWriterOn}
 
 -- the greatest count and the greatest ticket of an opening, and the most writes of one event on one channel
@@ -25,6 +25,10 @@ MostTicket = 1000000000000000000
 
 abbrev pub MostSent : ℕ
 MostSent = 4456448
+
+-- the most events of a timeline
+abbrev pub MostEvents : ℕ
+MostEvents = 1000000000000
 
 -- what no event changes of an entity: its channels, and the timer channels of its processes
 pub record Shape : Type 0 where
@@ -41,6 +45,11 @@ shape e = record { ins = e.in_channels; outs = e.out_channels; timers = map time
 -- how many of the first n events of a plan's run are on the timeline of entity k
 abbrev pub spent_by : {B S P : Type 0} → Reaction S P → Plan B S P → ℕ → (Key → Bool) → (ℕ → ℕ) → ℕ → ℕ → ℕ
 spent_by r plan until kept line n k = length (share (machine_of r plan.mappings) until kept (opening plan) (λ e. nat_eq (line e.entity) (line k)) n)
+
+-- event number n of the run is e, at this entity
+pub record HappensAt {B S P : Type 0} (r : Reaction S P) (plan : Plan B S P) (until : ℕ) (kept : Key → Bool) (n : ℕ) (e : Event P) (entity : Entity B S P) : Type 0 where
+  pub is : run_event r plan until kept n ≡ Some e
+  pub at : slice_get (world_after r plan until kept n).state.entities e.entity ≡ Some entity
 
 -- a process of an entity with these in-channels: its wait names the entity's own, and ends by itself only if the process
 -- is timed

@@ -2,7 +2,7 @@
 //! `kept` the cut: a test on keys, and a write whose key does not pass it is counted and does not
 //! become pending.
 
-ghost use Rattle.std.specs.Prelude.{◌≡◌, ◌⊎◌, ℕ, ◌+◌, ◌*◌, ◌<◌, ◌≤◌, ◌++◌, Bool, List, All, true, suc, count_by, length, Some, None, slice_get};
+ghost use Rattle.std.specs.Prelude.{◌≡◌, ◌⊎◌, ℕ, ◌+◌, ◌*◌, ◌^◌, ◌<◌, ◌≤◌, ◌++◌, Bool, List, All, true, suc, count_by, length, Some, None, slice_get};
 ghost use Rattle.event_order.specs.declared.key.Key.{Key as KeyValue};
 ghost use Rattle.event_order.specs.Order.{IsBefore};
 ghost use Rattle.event_order.specs.Pending.{Among, IsRising};
@@ -10,10 +10,11 @@ ghost use Rattle.event_order.specs.Machine.{after, within, all_kept};
 ghost use Rattle.event_order.specs.Run.{WrittenBefore, ExecutedWithin, Arises, Chain, share, acted};
 ghost use Rattle.ssf_model.specs.declared.event.Event.{Event};
 ghost use Rattle.ssf_model.specs.declared.event.Entry.{Entry};
+ghost use Rattle.ssf_model.specs.declared.process.Process.{Process};
 ghost use Rattle.ssf_model.specs.declared.entity.Entity.{Entity};
 ghost use Rattle.ssf_model.specs.declared.wait.Wake.{Wake};
 ghost use Rattle.ssf_model.specs.declared.plan.Plan.{Plan};
-ghost use Rattle.ssf_model.specs.Reaction.{LatestTime, LongestDelay};
+ghost use Rattle.ssf_model.specs.Reaction.{Each, LatestTime, LongestDelay};
 ghost use Rattle.ssf_model.specs.Entities.{IsValidEntity};
 ghost use Rattle.ssf_model.specs.Channels.{Sent, sent_by};
 ghost use Rattle.ssf_model.specs.Scene.{Net, Scene, scene_of, channel_of, time_of};
@@ -22,7 +23,7 @@ ghost use Rattle.ssf_model.specs.Run.{Fits, counts_of, machine_of, opening, run_
 ghost use Rattle.ssf_model.specs.Drafts.{Draft, planned};
 ghost use Rattle.run_laws.specs.Joined.{FollowsEarlier, IsFollowing, IsPassedOn, IsAligned, KeepsRounds};
 ghost use Rattle.run_laws.specs.Groups.{IsSameGroup, IsWriterOn, is_own};
-ghost use Rattle.run_laws.specs.Healthy.{IsHealthy, MostSent, spent_by};
+ghost use Rattle.run_laws.specs.Healthy.{HappensAt, IsHealthy, MostEvents, MostSent, spent_by};
 ghost use Rattle.run_laws.specs.Openings.{OpensInOrder};
 ghost use Rattle.run_laws.specs.Writes.{is_on};
 
@@ -146,33 +147,63 @@ pub fn states_keep<B: Behaviour, T>()
 
 /// The run of a plan that fits stays healthy: after n events the numbers of an entity are within what
 /// its own timeline's events among them allow, where the two ends of each mapping without delay are
-/// on one timeline. With fewer than 10^12 events of the timeline, tickets, rounds and counts are below
-/// 2^63, and so are those after one event more.
+/// on one timeline.
 pub fn runs_stay_healthy<B: Behaviour>()
     ensures { (b : B) (plan : Plan B B.State B.Payload) (until : ℕ) (kept : KeyValue → Bool) (line : ℕ → ℕ)
         → Fits (B.valid b) (B.carried b) plan → until ≤ LatestTime → IsAligned plan line
         → (n : ℕ) → IsHealthy (B.valid b) (B.carried b) plan (spent_by (B.reaction b) plan until kept line n) (world_after (B.reaction b) plan until kept n) }
 {}
 
+/// No number leaves 64 bits at an event before which its timeline had fewer than 10^12: the tickets of
+/// its entity, also after one more action, its round, also the next, the count of each channel on
+/// which it sends, after all that it sends there, and the times at which that arrives.
+pub fn numbers_stay_in_range<B: Behaviour>()
+    ensures tickets { (b : B) (plan : Plan B B.State B.Payload) (until : ℕ) (kept : KeyValue → Bool) (line : ℕ → ℕ)
+        → Fits (B.valid b) (B.carried b) plan → until ≤ LatestTime → IsAligned plan line
+        → (n : ℕ) (e : Event B.Payload) (entity : Entity B B.State B.Payload) → HappensAt (B.reaction b) plan until kept n e entity
+        → spent_by (B.reaction b) plan until kept line n e.entity < MostEvents
+        → Each (λ (p : Process). p.ticket + 1 < 2 ^ 64) entity.processes }
+    ensures round { (b : B) (plan : Plan B B.State B.Payload) (until : ℕ) (kept : KeyValue → Bool) (line : ℕ → ℕ)
+        → Fits (B.valid b) (B.carried b) plan → until ≤ LatestTime → IsAligned plan line
+        → (n : ℕ) (e : Event B.Payload) (entity : Entity B B.State B.Payload) → HappensAt (B.reaction b) plan until kept n e entity
+        → spent_by (B.reaction b) plan until kept line n e.entity < MostEvents
+        → e.key.round + 1 < 2 ^ 64 }
+    ensures counts { (b : B) (plan : Plan B B.State B.Payload) (until : ℕ) (kept : KeyValue → Bool) (line : ℕ → ℕ)
+        → Fits (B.valid b) (B.carried b) plan → until ≤ LatestTime → IsAligned plan line
+        → (n : ℕ) (e : Event B.Payload) (entity : Entity B B.State B.Payload) → HappensAt (B.reaction b) plan until kept n e entity
+        → spent_by (B.reaction b) plan until kept line n e.entity < MostEvents
+        → (s : Sent B.Payload) → Among s (sent_by (B.reaction b) plan.mappings e entity)
+        → (world_after (B.reaction b) plan until kept n).state.counts s.channel + count_by (is_on s.channel) (sent_by (B.reaction b) plan.mappings e entity) < 2 ^ 64 }
+    ensures times { (b : B) (plan : Plan B B.State B.Payload) (until : ℕ) (kept : KeyValue → Bool)
+        → Fits (B.valid b) (B.carried b) plan → until ≤ LatestTime
+        → (n : ℕ) (e : Event B.Payload) (entity : Entity B B.State B.Payload) → HappensAt (B.reaction b) plan until kept n e entity
+        → (s : Sent B.Payload) → Among s (sent_by (B.reaction b) plan.mappings e entity)
+        → e.key.time + s.delay < 2 ^ 64 }
+{}
+
 /// What one event sends: at most `MostSent` on one channel (`few`), and only on channels on which its
 /// entity writes (`own`), to entities that there are (`entity`), after delays in range (`delay`).
 pub fn events_send_little<B: Behaviour>()
     ensures few { (b : B) (plan : Plan B B.State B.Payload) (until : ℕ) (kept : KeyValue → Bool) → Fits (B.valid b) (B.carried b) plan → until ≤ LatestTime
-        → (n : ℕ) (e : Event B.Payload) (writer : Entity B B.State B.Payload) → run_event (B.reaction b) plan until kept n ≡ Some e
-        → slice_get (world_after (B.reaction b) plan until kept n).state.entities e.entity ≡ Some writer
+        → (n : ℕ) (e : Event B.Payload) (writer : Entity B B.State B.Payload) → HappensAt (B.reaction b) plan until kept n e writer
         → (c : ℕ) → count_by (is_on c) (sent_by (B.reaction b) plan.mappings e writer) ≤ MostSent }
     ensures own { (b : B) (plan : Plan B B.State B.Payload) (until : ℕ) (kept : KeyValue → Bool) → Fits (B.valid b) (B.carried b) plan → until ≤ LatestTime
-        → (n : ℕ) (e : Event B.Payload) (writer : Entity B B.State B.Payload) → run_event (B.reaction b) plan until kept n ≡ Some e
-        → slice_get (world_after (B.reaction b) plan until kept n).state.entities e.entity ≡ Some writer
+        → (n : ℕ) (e : Event B.Payload) (writer : Entity B B.State B.Payload) → HappensAt (B.reaction b) plan until kept n e writer
         → (s : Sent B.Payload) → Among s (sent_by (B.reaction b) plan.mappings e writer) → IsWriterOn plan e.entity s.channel }
     ensures entity { (b : B) (plan : Plan B B.State B.Payload) (until : ℕ) (kept : KeyValue → Bool) → Fits (B.valid b) (B.carried b) plan → until ≤ LatestTime
-        → (n : ℕ) (e : Event B.Payload) (writer : Entity B B.State B.Payload) → run_event (B.reaction b) plan until kept n ≡ Some e
-        → slice_get (world_after (B.reaction b) plan until kept n).state.entities e.entity ≡ Some writer
+        → (n : ℕ) (e : Event B.Payload) (writer : Entity B B.State B.Payload) → HappensAt (B.reaction b) plan until kept n e writer
         → (s : Sent B.Payload) → Among s (sent_by (B.reaction b) plan.mappings e writer) → s.entity < length plan.entities }
     ensures delay { (b : B) (plan : Plan B B.State B.Payload) (until : ℕ) (kept : KeyValue → Bool) → Fits (B.valid b) (B.carried b) plan → until ≤ LatestTime
-        → (n : ℕ) (e : Event B.Payload) (writer : Entity B B.State B.Payload) → run_event (B.reaction b) plan until kept n ≡ Some e
-        → slice_get (world_after (B.reaction b) plan until kept n).state.entities e.entity ≡ Some writer
+        → (n : ℕ) (e : Event B.Payload) (writer : Entity B B.State B.Payload) → HappensAt (B.reaction b) plan until kept n e writer
         → (s : Sent B.Payload) → Among s (sent_by (B.reaction b) plan.mappings e writer) → s.delay ≤ 2 * LongestDelay }
+{}
+
+/// A channel that an entity writes on is one of the plan's, and no other entity writes on it.
+pub fn channels_have_one_writer<B: Behaviour>()
+    ensures within { (b : B) (plan : Plan B B.State B.Payload) → Fits (B.valid b) (B.carried b) plan
+        → (k c : ℕ) → IsWriterOn plan k c → c < length plan.counts }
+    ensures one { (b : B) (plan : Plan B B.State B.Payload) → Fits (B.valid b) (B.carried b) plan
+        → (i k c : ℕ) → IsWriterOn plan i c → IsWriterOn plan k c → i ≡ k }
 {}
 
 /// The entries of a run are of the plan's entities.
