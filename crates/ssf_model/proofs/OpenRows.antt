@@ -11,6 +11,7 @@ use Rattle.ssf_model.specs.declared.event.Event.{Event}
 use Rattle.ssf_model.specs.declared.plan.Plan.{Plan}
 use Rattle.ssf_model.specs.Drafts.{planned}
 use Rattle.ssf_model.specs.Run.{Fits, machine_of, world_after}
+use Rattle.ssf_model.specs.Openings.{reopened, opening_after}
 use Rattle.ssf_model.proofs.Worked.{key, listens, listening}
 
 listener : Entity (Unit {0}) (Unit {0}) (Unit {0})
@@ -38,6 +39,10 @@ its_entities_are_the_runs = refl
 its_events_are_the_runs : (world_after listens listening 11 all_kept 3).pending ≡ half.events
 unfolding machine_of comes_before planned listens listening key half listener
 its_events_are_the_runs = refl
+
+it_opens_where_its_run_stands : reopened listening (opening_after listens listening 11 all_kept 3) ≡ half
+unfolding machine_of comes_before planned listens listening key half listener
+it_opens_where_its_run_stands = refl
 
 only_first : (i : ℕ) (e : Entity (Unit {0}) (Unit {0}) (Unit {0})) → slice_get (listener ∷ []) i ≡ Some e → i ≡ 0
 only_first zero e h = refl
