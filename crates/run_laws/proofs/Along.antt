@@ -19,6 +19,7 @@ use Rattle.ssf_model.specs.declared.plan.Plan.{Plan}
 use Rattle.ssf_model.specs.Reaction.{Reaction, Validity, KeepsValid, LatestTime, Each}
 use Rattle.ssf_model.specs.Deliver.{IsModest, wake_of, reacted, delivered}
 use Rattle.ssf_model.specs.Channels.{Sent, message, wait_end, timer_of, sent, delivered_to, entity_after}
+use Rattle.ssf_model.proofs.Fitted.{mapping_sole}
 use Rattle.ssf_model.specs.Run.{States, acts_at, writes_at, machine_of, opening, world_after, run_event, Fits, IsMappingOf}
 use Rattle.global_list.specs.Pending.{key_of}
 use Rattle.global_list.specs.Healthy.{IsHealthy, IsRunnable}
@@ -236,4 +237,4 @@ module _ {B S P : Type 0} (r : Reaction S P) (valid : Validity S) (carried : P �
       let own : Among m.out_channel s.entity.out_channels = each_among (IsOnOwn s.entity.out_channels) (delivered_to r e s.entity).writes (Channel m.out_channel delay payload) s.owned w in
       let outs : s.planned.out_channels ≡ s.entity.out_channels = ap (λ (t : Shape). t.outs) s.same in
       let mapping : IsMappingOf plan.entities m = each_among (IsMappingOf plan.entities) plan.mappings m fits.wired.mappings a in
-      sym (mapping.sole e.entity s.planned s.there (subst (λ cs. Among m.out_channel cs) (sym outs) own))
+      sym (mapping_sole plan fits.wired m mapping e.entity s.planned s.there (subst (λ cs. Among m.out_channel cs) (sym outs) own))

@@ -69,9 +69,11 @@ it_fits = record {
   wired = record {
     ins = λ i j c x y at there a b. let p = only_first i x at in let q = only_first j y there in omega arith;
     outs = λ i j c x y at there a b. let p = only_first i x at in let q = only_first j y there in omega arith;
+    in_ends = (record { rising = λ k h. absurd (omega arith); below = (omega arith, tt) }, tt);
+    out_ends = (record { rising = λ k h. absurd (omega arith); below = (omega arith, tt) }, tt);
     timers = refl;
     channels = refl;
-    mappings = (record { from = (listener, refl, inl refl); to = (listener, refl, inl refl); sole = λ i e at a. only_first i e at; delay = omega arith; priority = omega arith }, tt);
+    mappings = (record { from = (listener, refl, inl refl); to = (listener, refl, inl refl); delay = omega arith; priority = omega arith }, tt);
     most = omega arith;
   };
   opened = record {

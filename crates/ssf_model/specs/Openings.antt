@@ -1,8 +1,9 @@
 -- Openings: where in its run a plan begins. The plan with an opening, and the opening that stands after some events of its
 -- own run.
-use Rattle.std.specs.Prelude.{ℕ, ◌≡◌, ◌+◌, Bool, List, [], ◌∷◌, map, length}
+use Rattle.std.specs.Prelude.{ℕ, ◌≡◌, ◌+◌, Bool, List, [], ◌∷◌, map, length, None}
 use Rattle.std.specs.List.{range_with_len, AllZip}
 use Rattle.event_order.specs.declared.key.Key.{Key}
+use Rattle.event_order.specs.Pending.{Among}
 use Rattle.event_order.specs.Machine.{World}
 use Rattle.ssf_model.specs.declared.wait.Wait.{Wait}
 use Rattle.ssf_model.specs.declared.event.Event.{Event}
@@ -11,8 +12,10 @@ use Rattle.ssf_model.specs.declared.entity.Entity.{Entity}
 use Rattle.ssf_model.specs.declared.opening.Opened.{Opened}
 use Rattle.ssf_model.specs.declared.opening.Opening.{Opening}
 use Rattle.ssf_model.specs.declared.plan.Plan.{Plan}
-use Rattle.ssf_model.specs.Reaction.{Reaction, Validity, wait_of}
-use Rattle.ssf_model.specs.Run.{States, IsOpen, run_events, world_after}
+use Rattle.ssf_model.specs.Wake.{HasTimer}
+use Rattle.ssf_model.specs.Reaction.{Reaction, Validity, Each, channels_named, wait_of}
+use Rattle.ssf_model.specs.Entities.{IsValidEntity}
+use Rattle.ssf_model.specs.Run.{States, IsProcessOf, IsOpen, run_events, world_after}
 
 -- the processes with these waits and tickets, each with its own timer channel
 abbrev pub reopened_processes : List Process → List Wait → List ℕ → List Process
@@ -42,6 +45,17 @@ reopened plan o = record {
 pub record IsAsLong {B S P : Type 0} (e : Entity B S P) (o : Opened B S P) : Type 0 where
   pub waits : length o.waits ≡ length e.processes
   pub tickets : length o.tickets ≡ length e.processes
+
+-- a process of an entity with these in-channels may wait so: on the entity's own, and for a time only if it is timed
+pub record MayWait (ins : List ℕ) (p : Process) (wait : Wait) : Type 0 where
+  pub named : Each (λ c. Among c ins) (channels_named wait)
+  pub untimed : p.timer ≡ None → HasTimer wait → ⊥
+
+-- an entity may open so
+pub record MayOpen {B S P : Type 0} (valid : Validity S) (e : Entity B S P) (o : Opened B S P) : Type 0 where
+  pub long : IsAsLong e o
+  pub entity : IsValidEntity valid (reopened_entity e o)
+  pub processes : Each (IsProcessOf e.in_channels) (reopened_entity e o).processes
 
 -- as many entities as the plan has, each with as many waits and tickets as the plan's has processes, and as many counts
 pub record HasShape {B S P : Type 0} (plan : Plan B S P) (o : Opening B S P) : Type 0 where

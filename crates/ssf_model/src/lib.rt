@@ -29,7 +29,7 @@ pub use builder::{
 };
 pub use entity::Entity;
 pub use event::{Entry, Event, Line, Names, Parcel};
-pub use opening::{Opened, Opening};
+pub use opening::{LATEST_PENDING, MOST_BEFORE, MOST_COUNT, MOST_TICKET, Opened, Opening};
 pub use out::{Out, Written};
 pub use plan::{Mapping, Plan};
 pub use process::Process;
