@@ -1,10 +1,11 @@
 -- The plan of a builder's draft fits.
-use Rattle.std.proofs.Common.{ℕ, zero, suc, ◌≡◌, ◌+◌, ◌*◌, ◌<◌, ◌≤◌, ◌^◌, ◌∙◌, sym, ap, subst, refl, inl, inr, Bool, true, false, cond, List, [], ◌∷◌, ◌++◌, map, length, replicate, Some, slice_get, get_or, option_to_list, arith, zero-add, add-zero, length-append}
+use Rattle.std.proofs.Common.{ℕ, zero, suc, ◌≡◌, ◌+◌, ◌<◌, ◌≤◌, ◌^◌, ◌∙◌, sym, ap, subst, refl, inl, inr, Bool, true, false, cond, List, [], ◌∷◌, ◌++◌, map, length, replicate, Some, slice_get, get_or, option_to_list, arith, zero-add, add-zero, length-append}
 use Rattle.std.specs.declared.cmp.Ordering.TheVariants.{Less}
 use Rattle.std.specs.Cmp.{nat_cmp_is}
 use Rattle.std.specs.Ordering.{nat_cmp}
 use Rattle.std.specs.List.{range_with_len, flat_map}
-use Rattle.std.proofs.lemmas.List.{length-replicate}
+use Rattle.std.specs.List.Sorted.{IsStrictlyIncreasing}
+use Rattle.std.proofs.lemmas.List.{length-replicate, length-map}
 use Rattle.std.proofs.lemmas.List.FromFn.{length-range_with_len}
 use Rattle.std.proofs.lemmas.List.Sums.{sum_by-cons}
 use Rattle.event_order.specs.Order.{comes_before, IsBefore}
@@ -14,13 +15,15 @@ use Rattle.ssf_model.specs.declared.event.Event.{Event}
 use Rattle.ssf_model.specs.declared.process.Process.{Process}
 use Rattle.ssf_model.specs.declared.entity.Entity.{Entity}
 use Rattle.ssf_model.specs.declared.builder.DraftEntity.{DraftEntity}
+use Rattle.ssf_model.specs.declared.builder.OutChannel.{OutChannel}
 use Rattle.ssf_model.specs.declared.plan.Mapping.{Mapping}
 use Rattle.ssf_model.specs.declared.plan.Plan.{Plan}
 use Rattle.ssf_model.specs.Reaction.{Validity, Each, is_timed, wait_of}
 use Rattle.ssf_model.specs.Entities.{IsValidEntity}
-use Rattle.ssf_model.specs.Run.{Fits, HasAt, IsMappingOf, IsProcessOf, IsPending, timers_of, counts_of}
-use Rattle.ssf_model.specs.Drafts.{Draft, IsValidDraft, all_timers, timers, planned, start, first_process, first_processes, first_entity, first_entities, with_channel, with_channels}
-use Rattle.ssf_model.specs.Owners.{owners_of, IsDrawn, HasOwners, IsOwned, IsDraft}
+use Rattle.ssf_model.specs.Run.{Fits, HasAt, AreEnds, MostCount, IsMappingOf, IsProcessOf, IsPending, IsWired, timers_of, counts_of}
+use Rattle.ssf_model.specs.Drafts.{Draft, MostEnds, IsValidDraft, all_timers, timers, planned, start, first_process, first_processes, first_entity, first_entities, with_channel, with_channels}
+use Rattle.ssf_model.proofs.Owning.{each_at, each_from_places, each_from_among, place_within}
+use Rattle.ssf_model.specs.Owners.{AreOwned, owners_of, IsDrawn, HasOwners, IsOwned, IsDraft}
 
 -- ---- the processes and entities at first
 
@@ -112,6 +115,20 @@ first_at B S P timer [] i e h = absurd (cc)
 first_at B S P timer (d ∷ ds) zero e h = let is : Some (first_entity {B = B} {P = P} timer d) ≡ Some e = h in record { draft = d; there = refl; ins = cc; outs = cc }
 first_at B S P timer (d ∷ ds) (suc i) e h = let rest = first_at B S P (timer + timers d.timed) ds i e h in record { draft = rest.draft; there = rest.there; ins = rest.ins; outs = rest.outs }
 
+-- the channels of the entities are those of the draft's, which rise and have owners
+ends_fit : (B S P : Type 0) (timer : ℕ) (lists : DraftEntity S → List ℕ) (own : Entity B S P → List ℕ) (owners : List ℕ) (ds : List (DraftEntity S)) →
+    ((i : ℕ) (e : Entity B S P) (is : IsFirst ds i e) → own e ≡ lists is.draft) → AreOwned lists owners ds → length owners ≤ MostEnds → Each (λ (e : Entity B S P). AreEnds (own e)) (first_entities timer ds)
+ends_fit B S P timer lists own owners ds same has few =
+    each_from_places (λ (e : Entity B S P). AreEnds (own e)) (first_entities timer ds) (λ i e at.
+    let first = first_at B S P timer ds i e at in
+    let is : own e ≡ lists first.draft = same i e first in
+    record {
+      rising = subst IsStrictlyIncreasing (sym is) (each_at (λ (d : DraftEntity S). IsStrictlyIncreasing (lists d)) ds i first.draft has.rising first.there);
+      below = each_from_among (λ c. c < MostEnds) (own e) (λ c among.
+          let owner : slice_get owners c ≡ Some i = has.sole c i first.draft first.there (subst (λ (cs : List ℕ). Among c cs) is among) in
+          let within = place_within owners c i owner in omega arith);
+    })
+
 first_has : (B S P : Type 0) (timer : ℕ) (ds : List (DraftEntity S)) (i : ℕ) (lists : DraftEntity S → List ℕ) (own : Entity B S P → List ℕ) (c : ℕ) →
     ((t : ℕ) (d : DraftEntity S) → own (first_entity t d) ≡ lists d) → HasAt ds i (λ d. Among c (lists d)) → HasAt (first_entities timer ds) i (λ e. Among c (own e))
 first_has B S P timer [] i lists own c same has = absurd (let h = has.1 in cc)
@@ -126,11 +143,6 @@ mapping_fits : (B S P : Type 0) (timer channel : ℕ) (d : Draft B S) (m : Mappi
 mapping_fits B S P timer channel d m has is = record {
   from = first_has B S P timer d.entities m.from (λ e. e.out_channels) (λ e. e.out_channels) m.out_channel (λ t e. refl) (has.outs.listed m.out_channel m.from is.from);
   to = first_has B S P timer d.entities m.to (λ e. e.in_channels) (λ e. e.in_channels) m.in_channel (λ t e. refl) (has.ins.listed m.in_channel m.to is.to);
-  sole = λ i e at among.
-      let first = first_at B S P timer d.entities i e at in
-      let owner : slice_get (owners_of d.outs) m.out_channel ≡ Some i = has.outs.sole m.out_channel i first.draft first.there (subst (λ (cs : List ℕ). Among m.out_channel cs) first.outs among) in
-      let from = is.from in
-      cc;
   delay = is.delay;
   priority = is.priority;
 }
@@ -162,11 +174,11 @@ starts_rise P from (suc n) = (
   starts_rise P (from + 1) n,
 )
 
-each_replicate : (n c : ℕ) (ks : List ℕ) → c ≤ 5 * 10 ^ 18 → Each (λ k. k ≤ 5 * 10 ^ 18) ks → Each (λ k. k ≤ 5 * 10 ^ 18) (replicate n c ++ ks)
+each_replicate : (n c : ℕ) (ks : List ℕ) → c ≤ MostCount → Each (λ k. k ≤ MostCount) ks → Each (λ k. k ≤ MostCount) (replicate n c ++ ks)
 each_replicate zero c ks h rest = rest
 each_replicate (suc n) c ks h rest = (h, each_replicate n c ks h rest)
 
-none_more : (n : ℕ) → Each (λ k. k ≤ 5 * 10 ^ 18) (replicate n 0)
+none_more : (n : ℕ) → Each (λ k. k ≤ MostCount) (replicate n 0)
 none_more zero = tt
 none_more (suc n) = (omega arith, none_more n)
 
@@ -213,6 +225,8 @@ planned_fits B S P valid carried timed d is states =
             let a : slice_get (owners_of d.outs) c ≡ Some i = has.outs.sole c i one.draft one.there (subst (λ (cs : List ℕ). Among c cs) one.outs in_x) in
             let b : slice_get (owners_of d.outs) c ≡ Some j = has.outs.sole c j two.draft two.there (subst (λ (cs : List ℕ). Among c cs) two.outs in_y) in
             cc;
+        in_ends = ends_fit B S P starts (λ d. d.in_channels) (λ e. e.in_channels) d.in_owners d.entities (λ i e is. is.ins) has.ins is.range.ins;
+        out_ends = ends_fit B S P starts (λ d. d.out_channels) (λ e. e.out_channels) (owners_of d.outs) d.entities (λ i e is. is.outs) has.outs (rw (length-map d.outs (λ (o : OutChannel). o.entity)) is.range.outs);
         timers = told ∙ (ap (λ k. range_with_len k (all_timers d.entities)) (sym size) ∙ ap (λ n. range_with_len (length es) n) (sym number));
         channels = channels_are (starts + all_timers d.entities) d.mappings
             ∙ (ap (λ k. range_with_len k (length d.mappings)) (ap (λ k. k + all_timers d.entities) (sym size) ∙ ap (λ n. length es + n) (sym number))
@@ -241,3 +255,10 @@ parts_fit {B} {S} {P} valid carried starts timed others d es events ms counts is
     let timed_is = is.range.timed_is in
     let made : planned {P = P} d ≡ record { behaviour = d.behaviour; entities = es; events = events; mappings = ms; counts = counts; before = 0 } = cc in
     subst (λ (p : Plan B S P). Fits valid carried p) made (planned_fits B S P valid carried timed d is states)
+
+-- ---- what follows of how a plan is wired
+
+-- the out-channel of a mapping belongs to no entity but the one from which it leads
+pub mapping_sole : {B S P : Type 0} (plan : Plan B S P) → IsWired plan → (m : Mapping) → IsMappingOf plan.entities m → (i : ℕ) (e : Entity B S P) → slice_get plan.entities i ≡ Some e
+    → Among m.out_channel e.out_channels → i ≡ m.from
+mapping_sole plan wired m is i e here among = wired.outs i m.from m.out_channel e is.from.0 here is.from.1 among is.from.2

@@ -11,6 +11,7 @@ use Rattle.ssf_model.specs.declared.event.Event.{Event}
 use Rattle.ssf_model.specs.declared.plan.Plan.{Plan}
 use Rattle.ssf_model.specs.Drafts.{planned}
 use Rattle.ssf_model.specs.Run.{Fits, machine_of, world_after}
+use Rattle.ssf_model.specs.Openings.{reopened, opening_after}
 use Rattle.ssf_model.proofs.Worked.{key, listens, listening}
 
 listener : Entity (Unit {0}) (Unit {0}) (Unit {0})
@@ -39,6 +40,10 @@ its_events_are_the_runs : (world_after listens listening 11 all_kept 3).pending 
 unfolding machine_of comes_before planned listens listening key half listener
 its_events_are_the_runs = refl
 
+it_opens_where_its_run_stands : reopened listening (opening_after listens listening 11 all_kept 3) ≡ half
+unfolding machine_of comes_before planned listens listening key half listener
+it_opens_where_its_run_stands = refl
+
 only_first : (i : ℕ) (e : Entity (Unit {0}) (Unit {0}) (Unit {0})) → slice_get (listener ∷ []) i ≡ Some e → i ≡ 0
 only_first zero e h = refl
 only_first (suc i) e h = absurd (cc)
@@ -64,9 +69,11 @@ it_fits = record {
   wired = record {
     ins = λ i j c x y at there a b. let p = only_first i x at in let q = only_first j y there in omega arith;
     outs = λ i j c x y at there a b. let p = only_first i x at in let q = only_first j y there in omega arith;
+    in_ends = (record { rising = λ k h. absurd (omega arith); below = (omega arith, tt) }, tt);
+    out_ends = (record { rising = λ k h. absurd (omega arith); below = (omega arith, tt) }, tt);
     timers = refl;
     channels = refl;
-    mappings = (record { from = (listener, refl, inl refl); to = (listener, refl, inl refl); sole = λ i e at a. only_first i e at; delay = omega arith; priority = omega arith }, tt);
+    mappings = (record { from = (listener, refl, inl refl); to = (listener, refl, inl refl); delay = omega arith; priority = omega arith }, tt);
     most = omega arith;
   };
   opened = record {

@@ -1,6 +1,10 @@
 -- Each call of a builder keeps who owns the channels of its draft.
 use Rattle.std.proofs.Common.{ℕ, zero, suc, ◌≡◌, ◌⊎◌, ◌+◌, ◌<◌, ◌≤◌, ◌^◌, ◌∙◌, sym, ap, subst, refl, inl, inr, Bool, List, [], ◌∷◌, ◌++◌, length, Option, Some, None, slice_get, slice_set, slice_index, nat_le, nat_lt, arith, zero-add, option_map, length-append, length-set}
 use Rattle.std.specs.List.{range_with_len}
+use Rattle.std.specs.List.Sorted.{IsStrictlyIncreasing}
+use Rattle.std.proofs.Math.ListN.{get_or-append}
+use Rattle.std.proofs.Math.Seq.{get_or-append_seam}
+use Rattle.std.proofs.lemmas.Bool.{cases_lt}
 use Rattle.std.proofs.lemmas.List.{map-append, length-map}
 use Rattle.std.proofs.lemmas.List.Sums.{sum_by-cons}
 use Rattle.std.proofs.lemmas.Bool.Decides.{nat_tests}
@@ -78,6 +82,39 @@ pub each_to : {T : Type 0} (Q R : T → Type 0) (xs : List T) → ((x : T) → Q
 each_to Q R [] f each = tt
 each_to Q R (x ∷ xs) f each = (f x each.0, each_to Q R xs f each.1)
 
+-- a place at which something stands is one of the list
+pub place_within : {T : Type 0} (xs : List T) (i : ℕ) (x : T) → slice_get xs i ≡ Some x → i < length xs
+place_within [] i x h = absurd (cc)
+place_within (y ∷ xs) zero x h = omega arith
+place_within (y ∷ xs) (suc i) x h = let rest = place_within xs i x h in omega arith
+
+pub each_from_places : {T : Type 0} (Q : T → Type 0) (xs : List T) → ((i : ℕ) (x : T) → slice_get xs i ≡ Some x → Q x) → Each Q xs
+each_from_places Q [] f = tt
+each_from_places Q (x ∷ xs) f = (f zero x refl, each_from_places Q xs (λ i y h. f (suc i) y h))
+
+pub each_from_among : {T : Type 0} (Q : T → Type 0) (xs : List T) → ((x : T) → Among x xs → Q x) → Each Q xs
+each_from_among Q [] f = tt
+each_from_among Q (x ∷ xs) f = (f x (inl refl), each_from_among Q xs (λ y a. f y (inr a)))
+
+-- ---- lists that rise
+
+among_at : (xs : List ℕ) (k : ℕ) → k < length xs → Among (slice_index xs k) xs
+among_at [] k h = absurd (omega arith)
+among_at (x ∷ xs) zero h = inl refl
+among_at (x ∷ xs) (suc k) h = inr (among_at xs k (omega arith))
+
+-- numbers that rise, and one above them all
+rising_more : (xs : List ℕ) (n : ℕ) → IsStrictlyIncreasing xs → ((c : ℕ) → Among c xs → c < n) → IsStrictlyIncreasing (xs ++ n ∷ [])
+rising_more xs n rising above k within =
+    let long = length-append xs (n ∷ []) in
+    let here : k < length xs = omega arith in
+    elim (cases_lt (k + 1) (length xs)) [
+      | inl inner ↦ rw (get_or-append xs (n ∷ []) 0 (k + 1) inner, get_or-append xs (n ∷ []) 0 k here) (rising k inner)
+      | inr last ↦
+          let e : k + 1 ≡ length xs = omega arith in
+          rw (e, get_or-append_seam xs n [] 0, get_or-append xs (n ∷ []) 0 k here) (above (slice_index xs k) (among_at xs k here))
+    ]
+
 -- ---- owners of channels
 
 module _ {T : Type 0} (lists : T → List ℕ) where
@@ -89,6 +126,7 @@ module _ {T : Type 0} (lists : T → List ℕ) where
       | inl old ↦ is.sole channel entity x old among
       | inr last ↦ absurd (subst (λ (cs : List ℕ). Among channel cs) bare (subst (λ (y : T). Among channel (lists y)) last.same among))
     ];
+    rising = each_more (λ (x : T). IsStrictlyIncreasing (lists x)) es e is.rising (subst IsStrictlyIncreasing (sym bare) (λ k within. absurd (omega arith)));
   }
 
   -- an entity whose channels stay as they are
@@ -111,6 +149,8 @@ module _ {T : Type 0} (lists : T → List ℕ) where
           is.sole channel entity old (ap (λ i. slice_get es i) e ∙ here) (subst (λ (cs : List ℕ). Among channel cs) same (subst (λ (y : T). Among channel (lists y)) it among))
       | inr apart ↦ is.sole channel entity x (sym (set_other es place entity new apart) ∙ h) among
     ];
+    rising = each_set (λ (x : T). IsStrictlyIncreasing (lists x)) es place new is.rising
+        (subst IsStrictlyIncreasing (sym same) (each_at (λ (x : T). IsStrictlyIncreasing (lists x)) es place old is.rising here));
   }
 
   -- the next channel is this entity's
@@ -148,6 +188,9 @@ module _ {T : Type 0} (lists : T → List ℕ) where
           ]
       | inr apart ↦ get_more owners (place ∷ []) channel entity (is.sole channel entity x (sym (set_other es place entity new apart) ∙ h) among)
     ];
+    rising = each_set (λ (x : T). IsStrictlyIncreasing (lists x)) es place new is.rising
+        (subst IsStrictlyIncreasing (sym more) (rising_more (lists old) (length owners) (each_at (λ (x : T). IsStrictlyIncreasing (lists x)) es place old is.rising here)
+        (λ c among. place_within owners c place (is.sole c place old here among))));
   }
 
 -- ---- mappings
@@ -338,8 +381,8 @@ draft_new : {B S : Type 0} (behaviour : B) → IsDraft 0 (empty_draft {S = S} be
 unfolding IsOwned
 draft_new {B} {S} behaviour =
     let has : HasOwners (empty_draft {S = S} behaviour) = record {
-      ins = record { listed = λ channel owner h. absurd (cc); sole = λ channel entity e h among. absurd (cc) };
-      outs = record { listed = λ channel owner h. absurd (cc); sole = λ channel entity e h among. absurd (cc) };
+      ins = record { listed = λ channel owner h. absurd (cc); sole = λ channel entity e h among. absurd (cc); rising = tt };
+      outs = record { listed = λ channel owner h. absurd (cc); sole = λ channel entity e h among. absurd (cc); rising = tt };
       mappings = tt;
       places = refl;
       few = tt;

@@ -2,6 +2,7 @@ pub mod Channels
 pub mod Deliver
 pub mod Drafts
 pub mod Entities
+pub mod Openings
 pub mod Output
 pub mod Owners
 pub mod Reaction

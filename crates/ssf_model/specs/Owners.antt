@@ -1,6 +1,7 @@
 -- Who owns the channels of a draft, and where its mappings lead.
 use Rattle.std.specs.Prelude.{ℕ, ◌≡◌, ◌<◌, ◌≤◌, ◌^◌, List, map, length, Some, slice_get}
 use Rattle.std.specs.List.{range_with_len}
+use Rattle.std.specs.List.Sorted.{IsStrictlyIncreasing}
 use Rattle.event_order.specs.Pending.{Among}
 use Rattle.ssf_model.specs.declared.builder.OutChannel.{OutChannel}
 use Rattle.ssf_model.specs.declared.plan.Mapping.{Mapping}
@@ -9,10 +10,11 @@ use Rattle.ssf_model.specs.Run.{HasAt}
 use Rattle.ssf_model.specs.Drafts.{Draft, IsInRange}
 
 -- `lists` gives each entity's own channels, and `owners` the entity of each channel: a channel is in the list of its
--- owner, and in no other
+-- owner, and in no other, and each list rises
 pub record AreOwned {T : Type 0} (lists : T → List ℕ) (owners : List ℕ) (entities : List T) : Type 0 where
   pub listed : (channel owner : ℕ) → slice_get owners channel ≡ Some owner → HasAt entities owner (λ e. Among channel (lists e))
   pub sole : (channel entity : ℕ) (e : T) → slice_get entities entity ≡ Some e → Among channel (lists e) → slice_get owners channel ≡ Some entity
+  pub rising : Each (λ e. IsStrictlyIncreasing (lists e)) entities
 
 -- the entities of these out-channels
 abbrev pub owners_of : List OutChannel → List ℕ

@@ -1,6 +1,7 @@
 -- Plans, and the run of a plan: its events one by one in the order of their keys.
-use Rattle.std.specs.Prelude.{ℕ, ◌≡◌, ◌+◌, ◌<◌, ◌≤◌, ◌^◌, ◌*◌, zero, suc, Bool, List, [], ◌++◌, map, length, Option, Some, None, option_map, option_to_list, slice_get, slice_set, slice_index}
+use Rattle.std.specs.Prelude.{ℕ, ◌≡◌, ◌+◌, ◌<◌, ◌≤◌, ◌^◌, zero, suc, Bool, List, [], ◌++◌, map, length, Option, Some, None, option_map, option_to_list, slice_get, slice_set, slice_index}
 use Rattle.std.specs.List.{flat_map, range_with_len}
+use Rattle.std.specs.List.Sorted.{IsStrictlyIncreasing}
 use Rattle.event_order.specs.declared.key.Key.{Key}
 use Rattle.event_order.specs.Pending.{Among, IsRising}
 use Rattle.event_order.specs.Machine.{Machine, World, after, event, first_events, option_list}
@@ -14,7 +15,7 @@ use Rattle.ssf_model.specs.declared.plan.Mapping.{Mapping}
 use Rattle.ssf_model.specs.declared.plan.Plan.{Plan}
 use Rattle.ssf_model.specs.Wake.{HasTimer}
 use Rattle.ssf_model.specs.Reaction.{Reaction, Validity, Each, channels_named, LongestDelay}
-use Rattle.ssf_model.specs.Drafts.{MostChannels}
+use Rattle.ssf_model.specs.Drafts.{MostChannels, MostEnds}
 use Rattle.ssf_model.specs.Entities.{IsValidEntity}
 use Rattle.ssf_model.specs.Channels.{delivered_to, entity_after, sent_by, counted, numbered}
 
@@ -67,6 +68,20 @@ run_events r plan until kept n = first_events (machine_of r plan.mappings) until
 abbrev pub timers_of : {B S P : Type 0} → List (Entity B S P) → List ℕ
 timers_of entities = flat_map (λ e. flat_map (λ p. option_to_list p.timer) e.processes) entities
 
+-- at an opening the greatest count of a channel, the greatest ticket, the most events before it, and the latest time of a
+-- pending event: a write by the latest event of a run arrives after at most two of the longest delays
+abbrev pub MostCount : ℕ
+MostCount = 5000000000000000000
+
+abbrev pub MostTicket : ℕ
+MostTicket = 1000000000000000000
+
+abbrev pub MostBefore : ℕ
+MostBefore = 1000000000000000000
+
+abbrev pub LatestPending : ℕ
+LatestPending = 1002000000000000000
+
 -- there is an element of this number, and P holds of it
 abbrev pub HasAt : {T : Type 0} → List T → ℕ → (T → Type 0) → Type 0
 HasAt {T} xs i P = (x : T) × (slice_get xs i ≡ Some x) × P x
@@ -75,11 +90,15 @@ HasAt {T} xs i P = (x : T) × (slice_get xs i ≡ Some x) × P x
 abbrev pub AreOwn : {T : Type 0} → (T → List ℕ) → List T → Type 0
 AreOwn {T} lists xs = (i j c : ℕ) (x y : T) → slice_get xs i ≡ Some x → slice_get xs j ≡ Some y → Among c (lists x) → Among c (lists y) → i ≡ j
 
+-- an entity's in-channels, or its out-channels: in rising order, so each stands there once, with numbers below the limit
+pub record AreEnds (channels : List ℕ) : Type 0 where
+  pub rising : IsStrictlyIncreasing channels
+  pub below : Each (λ c. c < MostEnds) channels
+
 -- a mapping leads from an own out-channel of an entity to an own in-channel of another or the same
 pub record IsMappingOf {B S P : Type 0} (entities : List (Entity B S P)) (m : Mapping) : Type 0 where
   pub from : HasAt entities m.from (λ e. Among m.out_channel e.out_channels)
   pub to : HasAt entities m.to (λ e. Among m.in_channel e.in_channels)
-  pub sole : (i : ℕ) (e : Entity B S P) → slice_get entities i ≡ Some e → Among m.out_channel e.out_channels → i ≡ m.from
   pub delay : m.delay ≤ LongestDelay
   pub priority : m.priority < 2 ^ 8
 
@@ -87,7 +106,7 @@ pub record IsMappingOf {B S P : Type 0} (entities : List (Entity B S P)) (m : Ma
 pub record IsProcessOf (ins : List ℕ) (p : Process) : Type 0 where
   pub waits : Each (λ c. Among c ins) (channels_named p.wait)
   pub untimed : p.timer ≡ None → HasTimer p.wait → ⊥
-  pub ticket : p.ticket ≤ 10 ^ 18
+  pub ticket : p.ticket ≤ MostTicket
 
 -- a pending end of a wait: on the timer channel of its process, with a ticket that the process gave out; it is the
 -- present one only of a process whose wait ends by itself
@@ -118,13 +137,15 @@ pub record IsPending {B S P : Type 0} (carried : P → Type 0) (plan : Plan B S 
   pub on_channel : IsOnChannel carried plan.entities plan.mappings e.entity e.key e.kind
   pub round : e.key.round ≡ 0
   pub number : e.key.number < counts_of plan.counts e.key.channel
-  pub time : e.key.time ≤ 1002000000000000000
+  pub time : e.key.time ≤ LatestPending
 
 -- how a plan is wired, which no opening changes: each entity has in-channels and out-channels of its own, the timer
 -- channels come after the start channels, by entity and then by process, and the mappings' channels after these
 pub record IsWired {B S P : Type 0} (plan : Plan B S P) : Type 0 where
   pub ins : AreOwn (λ e. e.in_channels) plan.entities
   pub outs : AreOwn (λ e. e.out_channels) plan.entities
+  pub in_ends : Each (λ e. AreEnds e.in_channels) plan.entities
+  pub out_ends : Each (λ e. AreEnds e.out_channels) plan.entities
   pub timers : timers_of plan.entities ≡ range_with_len (length plan.entities) (length (timers_of plan.entities))
   pub channels : map (λ m. m.channel) plan.mappings ≡ range_with_len (length plan.entities + length (timers_of plan.entities)) (length plan.mappings)
   pub mappings : Each (IsMappingOf plan.entities) plan.mappings
@@ -136,8 +157,8 @@ pub record IsOpen {B S P : Type 0} (valid : Validity S) (carried : P → Type 0)
   pub entities : Each (IsValidEntity valid) plan.entities
   pub processes : Each (λ e. Each (IsProcessOf e.in_channels) e.processes) plan.entities
   pub size : length plan.counts ≡ length plan.entities + length (timers_of plan.entities) + length plan.mappings
-  pub counts : Each (λ count. count ≤ 5 * 10 ^ 18) plan.counts
-  pub before : plan.before ≤ 10 ^ 18
+  pub counts : Each (λ count. count ≤ MostCount) plan.counts
+  pub before : plan.before ≤ MostBefore
   pub rising : IsRising (λ e. e.key) plan.events
   pub pending : Each (IsPending carried plan) plan.events
 

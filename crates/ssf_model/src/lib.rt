@@ -8,7 +8,8 @@
 //! behaviour keeps, what an event makes of its entity), `Entities.antt` (entities whose states are
 //! valid), `Output.antt` (what actions write and tell), `Channels.antt` (what the writes of an event
 //! send), `Drafts.antt` (plans that are being made), `Owners.antt` (who owns the channels meanwhile),
-//! `Run.antt` (well-formed plans and their runs) and `Truth.antt` (facts on a run alone: the events
+//! `Run.antt` (well-formed plans and their runs), `Openings.antt` (a plan with another opening, and the
+//! opening after some events of its run) and `Truth.antt` (facts on a run alone: the events
 //! of a timeline, the writes of a channel by their place, promises and true parcels).
 #![tactic(auto)]
 
@@ -16,6 +17,7 @@ mod behaviour;
 mod builder;
 mod entity;
 mod event;
+mod opening;
 mod out;
 mod plan;
 mod process;
@@ -27,6 +29,7 @@ pub use builder::{
 };
 pub use entity::Entity;
 pub use event::{Entry, Event, Line, Names, Parcel};
+pub use opening::{LATEST_PENDING, MOST_BEFORE, MOST_COUNT, MOST_TICKET, Opened, Opening};
 pub use out::{Out, Written};
 pub use plan::{Mapping, Plan};
 pub use process::Process;

@@ -3,6 +3,7 @@
 
 ghost use Rattle.std.specs.Prelude.{◌≡◌, IfOk};
 ghost use Rattle.ssf_model.specs.Wake.{waits_on, timer_delay};
+ghost use Rattle.ssf_model.specs.Reaction.{channels_named};
 
 use sim_base::Memory;
 use std::alloc::Global;
@@ -60,6 +61,16 @@ impl Wait {
         match self {
             Wait::On(channels) | Wait::OnFor(channels, _) => channels.as_slice().contains(&channel),
             Wait::For(_) | Wait::Forever => false,
+        }
+    }
+
+    /// The in-channels on which a process that waits so hears.
+    pub fn named(&self) -> &[u32]
+        ensures { result.now ≡ channels_named self.now }
+    {
+        match self {
+            Wait::On(channels) | Wait::OnFor(channels, _) => channels.as_slice(),
+            Wait::For(_) | Wait::Forever => &[],
         }
     }
 
