@@ -1,10 +1,4 @@
-pub mod ChainLemmas
-pub mod NodeLemmas
-pub mod WalkLemmas
-pub mod PlaceLemmas
-pub mod LinkLemmas
-pub mod RelinkLemmas
-pub mod ListLemmas
-pub mod SearchLemmas
-pub mod StoreLemmas
-pub mod QueueLemmas
+mod HeapLemmas
+mod KeyLemmas
+mod QueueLemmas
+mod SortLemmas

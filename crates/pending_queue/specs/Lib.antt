@@ -1,4 +1,2 @@
-pub mod Chains
-pub mod Nodes
-pub mod Store
+pub mod Heap
 pub mod Queue
