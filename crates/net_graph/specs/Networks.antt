@@ -3,9 +3,8 @@ use Rattle.std.specs.Prelude.{ℕ, ◌≡◌, ◌^◌, ◌<◌, ◌≤◌, false
 use Rattle.std.specs.Option.{ForSome, option_map}
 use Rattle.std.specs.List.{range_with_len}
 use Rattle.std.specs.List.Sorted.{IsNonDecreasingBy}
-use Rattle.sim_base.specs.declared.records.TcpConfig.{TcpConfig}
-use Rattle.sim_base.specs.declared.records.ClientRow.{ClientRow}
 use Rattle.sim_base.specs.declared.records.ServerRow.{ServerRow}
+use Rattle.sim_base.specs.Traffic.{IsTcp, IsClient}
 use Rattle.ip_blocks.specs.declared.layout.LinkSize.{LinkSize}
 use Rattle.ip_blocks.specs.declared.layout.NetParent.{NetParent}
 use Rattle.ip_blocks.specs.Blocks.{IsLayout}
@@ -84,15 +83,6 @@ pub record IsSmall (network : Network) : Type 0 where
   pub servers : length network.servers ≤ 65536
   pub downs : sum_by (λ (link : LinkRow). length link.downs) network.links ≤ 64
 
-pub record IsTcp (frequency : ℕ) (tcp : TcpConfig) : Type 0 where
-  pub iss : tcp.iss ≤ 2 ^ 30
-  pub mss : (1 ≤ tcp.mss) × (tcp.mss ≤ 65495)
-  pub receive : (1 ≤ tcp.receive) × (tcp.receive ≤ 65535)
-  pub send : (1 ≤ tcp.send) × (tcp.send ≤ 65535)
-  pub tries : tcp.tries ≤ 100
-  pub msl : tcp.msl ≤ 10 ^ 18
-  pub frequency_is : tcp.frequency ≡ frequency
-
 -- a default route leaves by an interface of the host, and its next hop lies on the same link
 pub record IsGateway (network : Network) (host : ℕ) (gateway : Gateway) : Type 0 where
   pub there : gateway.interface < length network.interfaces
@@ -127,13 +117,6 @@ pub record IsLink (network : Network) (number : ℕ) (link : LinkRow) : Type 0 w
   pub there : All (λ i. i < length network.interfaces) link.attached
   pub attached : EachIndex link.attached (λ k. attachment_of network (slice_index link.attached k) ≡ Some (number, k))
   pub downs : All (λ (down : Down). (down.from < down.to) × (down.to ≤ 10 ^ 18)) link.downs
-
-pub record IsClient (client : ClientRow) : Type 0 where
-  pub start : client.start ≤ 10 ^ 18
-  pub window : client.window ≤ 10 ^ 18
-  pub file : client.file ≤ 2 ^ 30
-  pub datagram : (1 ≤ client.datagram) × (client.datagram ≤ 65507)
-  pub interval : client.interval ≤ 10 ^ 18
 
 abbrev pub IsKind : SessionKind → Type 0
 IsKind Silent = Unit {0}

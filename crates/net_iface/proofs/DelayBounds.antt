@@ -2,7 +2,8 @@
 use Rattle.std.proofs.Common.{ℕ, ◌^◌, ◌+◌, ◌*◌, ◌/◌, ◌<◌, ◌≤◌, arith}
 use Rattle.std.proofs.Math.Nat.{lt-mul-div-succ, mul-le-mul_left, lt_of_mul-lt-mul_right}
 use Rattle.std.proofs.lemmas.Grind.{div_ceil_times}
-use Rattle.net_iface.specs.InterfaceFields.{ticks_of, IsRated}
+use Rattle.sim_base.specs.Traffic.{ticks_of}
+use Rattle.net_iface.specs.InterfaceFields.{IsRated}
 
 -- the same with products in place of quotients
 products_bound : (b f most wait bytes q t u : ℕ) → wait * b < 8 * f * (q + 1) → t * b < 8 * bytes * f + b → 8 * (most + 1) * f ≤ u * b → 8 * f * (q + bytes) ≤ 8 * f * most → (wait + t) * b < (u + 1) * b

@@ -1,2 +1,3 @@
 pub mod DelayBounds
+mod Keeping
 mod Worked

@@ -1,7 +1,8 @@
 -- The drop-tail rule: packets leave in the order in which they came, at the bitrate, and one for
 -- which the buffer has no room is dropped.
 use Rattle.std.specs.Prelude.{ℕ, ◌+◌, ◌-◌, ◌*◌, ◌/◌, max, nat_le, Bool, if◌then◌else◌}
-use Rattle.net_iface.specs.InterfaceFields.{InterfaceFields, ticks_of}
+use Rattle.sim_base.specs.Traffic.{ticks_of}
+use Rattle.net_iface.specs.InterfaceFields.{InterfaceFields}
 use Rattle.net_iface.specs.declared.interface.Offer.{Offer}
 use Rattle.net_iface.specs.declared.interface.Offer.TheVariants.{Sent, Dropped}
 

@@ -1,6 +1,6 @@
 -- An interface of a host: what a contract sees of it, and the ranges of its fields.
-use Rattle.std.specs.Prelude.{ℕ, ◌+◌, ◌*◌, ◌≤◌, ◌^◌}
-use Rattle.std.specs.Int.{div_ceil}
+use Rattle.std.specs.Prelude.{ℕ, ◌+◌, ◌≤◌, ◌^◌}
+use Rattle.sim_base.specs.Traffic.{ticks_of}
 
 -- bits a second, ticks a second, the bytes of the buffer, and the tick at which all is sent
 pub record InterfaceFields : Type 0 where
@@ -8,10 +8,6 @@ pub record InterfaceFields : Type 0 where
   pub frequency : ℕ
   pub buffer : ℕ
   pub free : ℕ
-
--- the ticks in which bytes leave at a bitrate, rounded up
-abbrev pub ticks_of : ℕ → ℕ → ℕ → ℕ
-ticks_of bitrate frequency bytes = div_ceil (8 * bytes * frequency) bitrate
 
 -- the ranges in which an interface is made, where a full buffer and one byte leave in at most 10^15 ticks
 pub record IsRated (bitrate frequency buffer : ℕ) : Type 0 where

@@ -34,7 +34,8 @@ impl Model for Interface {
 
 impl Interface {
     ghost use Rattle.std.specs.Prelude.{◌≡◌, ◌≤◌, ◌*◌, ◌/◌, ◌^◌, ◌+◌};
-    ghost use Rattle.net_iface.specs.InterfaceFields.{IsRated, IsInterface, ticks_of};
+    ghost use Rattle.sim_base.specs.Traffic.{ticks_of};
+    ghost use Rattle.net_iface.specs.InterfaceFields.{IsRated, IsInterface};
     ghost use Rattle.net_iface.specs.DropTail.{offered, after_offer, IfSent};
 
     /// An idle interface: `bitrate` in bit/s and `frequency` in ticks a second from 1 to 10^12,
@@ -49,6 +50,13 @@ impl Interface {
             buffer,
             free: 0,
         }
+    }
+
+    /// Tells a proof that the fields are in their ranges.
+    pub fn known(&self)
+        ensures { IsInterface self.now }
+    {
+        let _free = self.free;
     }
 
     /// Offers a packet of so many bytes at the tick `now`. It is dropped exactly where the bytes

@@ -1,8 +1,9 @@
 -- The first fault that keeps a network from having a plan.
-use Rattle.std.specs.Prelude.{ℕ, ◌+◌, ◌-◌, ◌*◌, ◌/◌, ◌^◌, nat_lt, ◌==◌, Bool, false, ◌&&◌, ◌||◌, length, count_by, Option, Some, None, codes, if◌then◌else◌}
+use Rattle.std.specs.Prelude.{ℕ, ◌+◌, ◌*◌, ◌^◌, nat_lt, ◌==◌, Bool, false, ◌&&◌, ◌||◌, length, count_by, Option, Some, None, codes, if◌then◌else◌}
 use Rattle.std.specs.List.{list_any}
 use Rattle.sim_base.specs.declared.records.ServerRow.{ServerRow}
 use Rattle.sim_base.specs.declared.records.ClientRow.{ClientRow}
+use Rattle.sim_base.specs.Traffic.{ticks_of}
 use Rattle.net_graph.specs.declared.rows.Network.{Network}
 use Rattle.net_graph.specs.declared.rows.HostRow.{HostRow}
 use Rattle.net_graph.specs.declared.rows.InterfaceRow.{InterfaceRow}
@@ -44,12 +45,8 @@ abbrev pub is_long_way : Network → InterfaceRow → Option (ℕ × ℕ) → Bo
 is_long_way network interface None = false
 is_long_way network interface (Some at) = is_long (interface.latency + (link_at network at.0).delay)
 
--- the ticks in which a full buffer and one byte more leave, rounded up
-abbrev pub drain_ticks : ℕ → InterfaceRow → ℕ
-drain_ticks frequency interface = ((interface.buffer + 1) * 8 * frequency + (interface.bitrate - 1)) / interface.bitrate
-
 abbrev pub is_slow : Network → InterfaceRow → Bool
-is_slow network interface = is_long_way network interface interface.link || is_long (drain_ticks network.frequency interface)
+is_slow network interface = is_long_way network interface interface.link || is_long (ticks_of interface.bitrate network.frequency (interface.buffer + 1))
 
 -- the latest start of a client, and its wait between two datagrams
 abbrev pub is_late_client : ClientRow → Bool

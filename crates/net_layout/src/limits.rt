@@ -1,6 +1,7 @@
 //! The limits that a network has to keep for its plan.
-ghost use Rattle.std.specs.Prelude.{◌≡◌, ◌<◌, ◌≤◌, ◌*◌, ◌+◌, ◌-◌, ◌/◌, ◌^◌, ℕ, length, vec_len, slice_index, slice_set, nat_lt, IfOk};
+ghost use Rattle.std.specs.Prelude.{◌≡◌, ◌<◌, ◌≤◌, ◌*◌, ◌+◌, ◌^◌, ℕ, length, vec_len, slice_index, slice_set, nat_lt, IfOk};
 ghost use Rattle.std.specs.List.{list_any};
+ghost use Rattle.sim_base.specs.Traffic.{ticks_of};
 ghost use Rattle.net_graph.specs.Networks.{IsNetwork, link_at, interface_at};
 ghost use Rattle.net_layout.specs.Periods.{periods_of};
 ghost use Rattle.net_graph.specs.declared.rows.InterfaceRow.{InterfaceRow};
@@ -178,10 +179,10 @@ fn drain_ticks(buffer: u64, frequency: u64, bitrate: u64) -> u128
     requires buffer { buffer ≤ 2 ^ 31 }
     requires frequency { frequency ≤ 10 ^ 12 }
     requires some_bitrate { 1 ≤ bitrate }
-    ensures { result ≡ ((buffer + 1) * 8 * frequency + (bitrate - 1)) / bitrate }
+    ensures { result ≡ ticks_of bitrate frequency (buffer + 1) }
 {
-    let bits = (u128::from(buffer) + 1) * 8;
-    (bits * u128::from(frequency) + u128::from(bitrate - 1)) / u128::from(bitrate)
+    let bits = 8 * (u128::from(buffer) + 1);
+    (bits * u128::from(frequency)).div_ceil(u128::from(bitrate))
 }
 
 /// Whether a client may start too late, or waits too long between two datagrams.

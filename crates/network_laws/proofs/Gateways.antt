@@ -16,7 +16,8 @@ use Rattle.net_graph.specs.declared.seen.HostSeen.{HostSeen}
 use Rattle.net_graph.specs.declared.seen.SessionSeen.{SessionSeen}
 use Rattle.net_graph.specs.declared.seen.Seen.{Seen}
 use Rattle.net_graph.specs.Names.{same}
-use Rattle.net_graph.specs.Networks.{IsId, IsTcp, no_interface}
+use Rattle.sim_base.specs.Traffic.{IsTcp}
+use Rattle.net_graph.specs.Networks.{IsId, no_interface}
 use Rattle.net_graph.specs.NetworkOf.{Attachment, full, interface_at, link_at, same_link, next_at, gateway_next, own_address, gateway_on, gateway_row, tcp_or, tcp_in, host_rows}
 use Rattle.network_laws.proofs.Ranges.{then_if, IsFrequency, IsSessionKeys, default_tcp_is}
 use Rattle.network_laws.proofs.Names.{found, same_place}

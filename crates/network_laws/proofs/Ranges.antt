@@ -24,7 +24,7 @@ use Rattle.net_graph.specs.declared.list_keys.SessionKeys.TheVariants as session
 use Rattle.net_graph.specs.Keys.{lists_of, first_of, number_of_value, values_of}
 use Rattle.net_graph.specs.Reads.{Read, then_read, read_or, ok_or}
 use Rattle.net_graph.specs.ListKeys.{first_value_of, is_text, number_at, seconds_of_value, seconds_at, id_number, ordered_range, range_of, range_or, id_or, ids_at, ends_of, interface_keys, some_attached, attached_each, down_of, ordered_down, numbered_down, downs_from, link_keys, client_keys, transport_of, default_tcp, tcp_keys, tcp_at, session_named, session_keys, text_or_missing, port_of, server_keys, server_nhi, frequency_of}
-use Rattle.net_graph.specs.Networks.{IsTcp, IsClient}
+use Rattle.sim_base.specs.Traffic.{IsTcp, IsClient}
 
 -- what is read, where anything is
 pub then_if : {A B : Type 0} (P : A → Type 0) (Q : B → Type 0) (r : Read A) (next : A → Read B) → IfOk r P → ((a : A) → P a → IfOk (next a) Q) → IfOk (then_read r next) Q

@@ -2,3 +2,4 @@ pub mod CurrentFile
 pub mod MemoryObjects
 pub mod Outside
 pub mod SegmentFields
+pub mod Traffic

@@ -1,5 +1,5 @@
 -- How far the client sessions of a host are: each goes through all servers of the host, in order.
-use Rattle.std.specs.Prelude.{ℕ, ◌+◌, List, Option, length, nat_lt, if◌then◌else◌, replicate, slice_get, slice_index, slice_set}
+use Rattle.std.specs.Prelude.{ℕ, ◌+◌, ◌≤◌, All, List, Option, length, nat_lt, if◌then◌else◌, replicate, slice_get, slice_index, slice_set}
 use Rattle.sim_base.specs.declared.records.ClientRow.{ClientRow}
 use Rattle.sim_base.specs.declared.records.ServerRow.{ServerRow}
 
@@ -7,6 +7,10 @@ use Rattle.sim_base.specs.declared.records.ServerRow.{ServerRow}
 pub record Progress : Type 0 where
   pub servers : List ServerRow
   pub given : List ℕ
+
+-- no session was given more servers than there are
+pub record IsProgress (p : Progress) : Type 0 where
+  pub given : All (λ given. given ≤ length p.servers) p.given
 
 -- before any server was given
 unfoldable pub at_first : List ClientRow → List ServerRow → Progress

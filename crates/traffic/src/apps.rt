@@ -12,16 +12,18 @@ pub struct Apps {
 }
 
 impl Model for Apps {
-    ghost use Rattle.traffic.specs.Progress.{Progress};
+    ghost use Rattle.traffic.specs.Progress.{Progress, IsProgress};
 
     ghost Value = { Progress };
 
     ghost view = { λ a. record { servers = a.servers.items; given = a.given.items } };
+
+    ghost invariant = { λ a. IsProgress (record { servers = a.servers.items; given = a.given.items }) };
 }
 
 impl Apps {
     ghost use Rattle.std.specs.Prelude.{◌≡◌, ◌<◌, ◌≤◌, ◌↔◌, length, slice_index, IfOk, IsNone};
-    ghost use Rattle.traffic.specs.Progress.{at_first, next_server, after_next};
+    ghost use Rattle.traffic.specs.Progress.{IsProgress, at_first, next_server, after_next};
 
     /// The client sessions and the servers of one host, in order. No server was given yet.
     #[tactic(auto, unfolding(crate::specs::Progress::at_first))]
@@ -32,6 +34,13 @@ impl Apps {
         let servers = Vec::from_slice(alloc, servers)?;
         let given = vec![in alloc; 0; clients.len()]?;
         Ok(Apps { servers, given })
+    }
+
+    /// Tells a proof that no session was given more servers than there are.
+    pub fn known(&self)
+        ensures { IsProgress self.now }
+    {
+        let _sessions = self.given.len();
     }
 
     /// The server that this client session goes to next, each in its order. `None` exactly where it
