@@ -11,6 +11,3 @@ mod lexer;
 
 pub use fronts::is_word_byte;
 pub use lexer::{LexFault, MOST_BYTES, Token, TokenKind, lex};
-
-#[cfg(test)]
-mod tests;

@@ -14,6 +14,3 @@ mod resolving;
 
 pub use places::{first, next};
 pub use resolving::{PathFault, resolve};
-
-#[cfg(test)]
-mod tests;

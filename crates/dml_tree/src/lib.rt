@@ -15,6 +15,3 @@ mod tree;
 pub use printing::write;
 pub use reading::{TreeFault, read};
 pub use tree::{Attribute, Place, Tree, Value, join};
-
-#[cfg(test)]
-mod tests;

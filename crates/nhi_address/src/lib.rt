@@ -12,8 +12,6 @@
 mod nhi;
 mod number;
 mod read;
-#[cfg(test)]
-mod tests;
 
 pub use nhi::{IdRange, MOST_ID, Nhi, print_nhi, under};
 pub use number::{read_digits, read_number};

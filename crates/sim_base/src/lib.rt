@@ -11,8 +11,6 @@ mod memory_library;
 mod memory_sink;
 mod outside;
 mod records;
-#[cfg(test)]
-mod tests;
 mod text;
 mod transfer;
 

@@ -1,5 +1,5 @@
 //! Spans and faults of worked texts.
-use crate::{LexFault, Token, TokenKind, lex};
+use dml_lexer::{LexFault, Token, TokenKind, lex};
 use std::test::Fail;
 
 #[test]
@@ -41,6 +41,22 @@ fn tokens_have_their_spans(rt: HostRuntime) -> Result<(), Fail> {
             assert_eq!(rt; *token, wanted, "{bytes:?}");
         }
     }
+    Ok(())
+}
+
+#[test]
+fn a_text_of_many_tokens(rt: HostRuntime) -> Result<(), Fail> {
+    let tokens = lex(
+        rt.alloc(),
+        b"a [ \"b\" ] c [ \"d\" ] e [ \"f\" ] g [ \"h\" ]",
+    )?;
+    assert_eq!(rt; tokens.len(), 16);
+    let last = Token {
+        kind: TokenKind::RightBracket,
+        from: 38,
+        to: 39,
+    };
+    assert!(rt; tokens.last() == Some(&last));
     Ok(())
 }
 

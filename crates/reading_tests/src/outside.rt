@@ -1,5 +1,9 @@
-//! What no clause says: that calls with ample memory give their answer.
-use crate::*;
+//! Files, sinks, lists and gates in memory: what no clause says, that calls with ample memory give their
+//! answer.
+use sim_base::{
+    Failed, Gate, Library, ListOf, MemoryLibrary, MemorySink, OpenGate, ReadEnd, Sink, StopGate,
+    Text, push_number, read_file, write_all,
+};
 use std::test::Fail;
 
 /// A library with two files of the name `a`, and an empty one.

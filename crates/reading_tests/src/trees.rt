@@ -1,5 +1,5 @@
 //! Texts with their trees and faults, the limits, and the way back through the printing.
-use crate::{Attribute, Place, Tree, TreeFault, Value, join, read, write};
+use dml_tree::{Attribute, Place, Tree, TreeFault, Value, join, read, write};
 use sim_base::Text;
 use std::alloc::Global;
 use std::test::Fail;

@@ -1,5 +1,5 @@
 //! Worked trees and faults, from the text to the printing.
-use crate::{PathFault, resolve};
+use dml_resolve::{PathFault, first, next, resolve};
 use dml_tree::{Place, join, read, write};
 use std::alloc::Global;
 use std::test::Fail;
@@ -196,5 +196,17 @@ fn the_deepest_tree_is_resolved(rt: HostRuntime) -> Result<(), Fail> {
     let text = deep(rt.alloc())?;
     let tree = read(rt.alloc(), 0, text.as_slice())?;
     assert!(rt; resolve(rt.alloc(), &tree).is_ok());
+    Ok(())
+}
+
+#[test]
+fn places_of_a_key(rt: HostRuntime) -> Result<(), Fail> {
+    let tree = read(rt.alloc(), 0, b"a 1 b [ a 2 ] a [ ] c \"\"")?;
+    assert_eq!(rt; first(&tree, b"a"), Some(0));
+    assert_eq!(rt; next(&tree, b"a", 0), Some(2));
+    assert_eq!(rt; next(&tree, b"a", 2), None);
+    assert_eq!(rt; first(&tree, b"c"), Some(3));
+    assert_eq!(rt; first(&tree, b"d"), None);
+    assert_eq!(rt; next(&tree, b"c", 9), None);
     Ok(())
 }

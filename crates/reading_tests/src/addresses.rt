@@ -1,4 +1,5 @@
-use crate::{Nhi, NhiFault, print_nhi, read_nhi, under};
+//! Addresses of hosts and interfaces: texts that are read, printed or refused.
+use nhi_address::{Nhi, NhiFault, print_nhi, read_nhi, under};
 use std::test::Fail;
 
 #[test]
