@@ -2,3 +2,4 @@ mod HeapLemmas
 mod KeyLemmas
 mod QueueLemmas
 mod SortLemmas
+mod TestLemmas

@@ -3,5 +3,7 @@
 
 mod heap;
 mod pending;
+#[cfg(test)]
+mod tests;
 
 pub use pending::Pending;
