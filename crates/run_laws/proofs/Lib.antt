@@ -14,3 +14,4 @@ pub mod Opens
 pub mod OfFitting
 pub mod Grouped
 pub mod ByPlace
+pub mod Windows

@@ -17,8 +17,8 @@ ghost use Rattle.ssf_model.specs.declared.plan.Plan.{Plan};
 ghost use Rattle.ssf_model.specs.Reaction.{Each, LatestTime, LongestDelay};
 ghost use Rattle.ssf_model.specs.Entities.{IsValidEntity};
 ghost use Rattle.ssf_model.specs.Channels.{Sent, sent_by};
-ghost use Rattle.ssf_model.specs.Scene.{Net, Scene, scene_of, channel_of, time_of};
-ghost use Rattle.ssf_model.specs.Truth.{line_events_at, AreFew, writes_on, IsWrite, IsRunWrite, IsStretch, IsPromise, IsTrueParcel};
+ghost use Rattle.ssf_model.specs.Scene.{Net, Scene, scene_of, event_at, channel_of, time_of};
+ghost use Rattle.ssf_model.specs.Truth.{line_events_at, AreFew, writes_on, IsWrite, IsRunWrite, IsStretch, IsPromise, IsTrueParcel, IsWindow, window_at};
 ghost use Rattle.ssf_model.specs.Run.{Fits, counts_of, machine_of, opening, run_event, run_events, run_entries, entries_from, world_after};
 ghost use Rattle.ssf_model.specs.Drafts.{Draft, planned};
 ghost use Rattle.run_laws.specs.Joined.{FollowsEarlier, IsFollowing, IsPassedOn, IsAligned, KeepsRounds};
@@ -339,4 +339,10 @@ pub fn true_parcels_agree<X, E>()
 pub fn true_parcels_are_whole<X, E>()
     ensures { (s : Scene X E) (c first end bound : ℕ) (ds : List E) → s.net.appointed c ≡ true → IsTrueParcel s c first ds end bound
         → (k : ℕ) (d : E) → IsWrite s c k d → time_of s d < bound → (k < first) ⊎ Among d ds }
+{}
+
+/// The windows of a run that is over after `end` events are just those that `window_at` computes.
+pub fn windows_are_computed<X, E>()
+    ensures tells { (s : Scene X E) (end : ℕ) → event_at s end ≡ None → (k v x : ℕ) → IsWindow s k v x → window_at s end k ≡ Some x }
+    ensures told { (s : Scene X E) (end : ℕ) → event_at s end ≡ None → (k x : ℕ) → window_at s end k ≡ Some x → (v : ℕ) × IsWindow s k v x }
 {}
