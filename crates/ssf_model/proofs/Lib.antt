@@ -5,3 +5,6 @@ mod TrueRows
 mod OpenRows
 pub mod Owning
 pub mod Fitted
+pub mod Lists
+pub mod Counts
+pub mod Entries
