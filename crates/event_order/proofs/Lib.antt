@@ -5,5 +5,6 @@ pub mod Keys
 pub mod Rounds
 pub mod Finite
 pub mod Local
+pub mod Shares
 pub mod Continuing
 pub mod Rows

@@ -18,13 +18,13 @@ use Rattle.ssf_model.specs.Deliver.{IsModest}
 use Rattle.ssf_model.specs.Channels.{Sent, sent, delivered_to, entity_after, sent_by, counted}
 use Rattle.ssf_model.specs.Run.{States, Fits, counts_of, acts_at, writes_at, machine_of, opening, timers_of}
 use Rattle.global_list.specs.Pending.{key_of}
-use Rattle.run_laws.specs.Healthy.{MostEvents, MostTicket, IsHealthy, spent_by}
-use Rattle.run_laws.proofs.Lists.{each_all, each_of, place_of}
-use Rattle.run_laws.proofs.Delivers.{given_timely}
-use Rattle.run_laws.proofs.Writers.{writer_low}
-use Rattle.run_laws.proofs.Healths.{given, fine_sent, few_sent}
-use Rattle.run_laws.proofs.Along.{healthy_along, all_aligned}
-use Rattle.run_laws.proofs.Shares.{share_length}
+use Rattle.run_health.specs.Healthy.{MostEvents, MostTicket, IsHealthy, spent_by}
+use Rattle.ssf_model.proofs.Lists.{each_all, each_of, place_of}
+use Rattle.run_health.proofs.Delivers.{given_timely}
+use Rattle.run_health.proofs.Writers.{writer_low}
+use Rattle.run_health.proofs.Healths.{given, fine_sent, few_sent}
+use Rattle.run_health.proofs.Along.{healthy_along, all_aligned}
+use Rattle.event_order.proofs.Shares.{share_length}
 use Rattle.global_list.specs.Posting.{IsSendable, IsPosted}
 use Rattle.ssf_model.specs.Run.{entry_at, entries_from}
 use Rattle.global_list.specs.Executed.{states_of, world_of, MayExecute, MayGoOn, IsExecuted, IsOneMore}

@@ -14,9 +14,9 @@ use Rattle.ssf_model.specs.Reaction.{Each}
 use Rattle.ssf_model.specs.Channels.{Sent, raised, counted, numbered}
 use Rattle.ssf_model.specs.Run.{counts_of}
 use Rattle.global_list.specs.Pending.{key_of}
-use Rattle.run_laws.specs.Writes.{is_on}
-use Rattle.run_laws.proofs.Lists.{each_first, each_rest, count_append, count_yes}
-use Rattle.run_laws.proofs.Counts.{counted_is, numbered_told}
+use Rattle.ssf_model.specs.Channels.{is_on}
+use Rattle.ssf_model.proofs.Lists.{each_first, each_rest, count_append, count_yes}
+use Rattle.ssf_model.proofs.Counts.{counted_is, numbered_told}
 use Rattle.global_list.specs.Posting.{IsSendable, MayPost, IsPosted}
 
 put_all_append : {T : Type 0} (key : T → Key) (xs ys zs : List T) → put_all key (xs ++ ys) zs ≡ put_all key ys (put_all key xs zs)

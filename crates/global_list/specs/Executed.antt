@@ -14,7 +14,7 @@ use Rattle.ssf_model.specs.Deliver.{IsTimely}
 use Rattle.ssf_model.specs.Entities.{IsValidEntity}
 use Rattle.ssf_model.specs.Channels.{sent_by}
 use Rattle.ssf_model.specs.Run.{States, counts_of, acts_at, writes_at, machine_of, world_after, Fits}
-use Rattle.run_laws.specs.Healthy.{MostEvents}
+use Rattle.run_health.specs.Healthy.{MostEvents}
 use Rattle.global_list.specs.Pending.{key_of}
 use Rattle.global_list.specs.Posting.{MayPost}
 use Rattle.ssf_model.specs.Run.{entry_at}

@@ -6,7 +6,7 @@ use Rattle.ssf_model.specs.declared.event.Event.{Event}
 use Rattle.ssf_model.specs.Reaction.{LatestTime, LongestDelay, Each}
 use Rattle.ssf_model.specs.Channels.{Sent, counted, numbered}
 use Rattle.ssf_model.specs.Run.{counts_of}
-use Rattle.run_laws.specs.Writes.{is_on}
+use Rattle.ssf_model.specs.Channels.{is_on}
 use Rattle.global_list.specs.Pending.{key_of}
 
 -- what is sent goes on a channel that there is, after a delay in range

@@ -4,7 +4,7 @@ ghost use Rattle.std.specs.Prelude.{◌≡◌, ◌≤◌, ◌⊎◌, ℕ, [], le
 ghost use Rattle.event_order.specs.Machine.{within, all_kept};
 ghost use Rattle.ssf_model.specs.Reaction.{LatestTime};
 ghost use Rattle.ssf_model.specs.Run.{Fits, run_event, run_entries};
-ghost use Rattle.run_laws.specs.Healthy.{MostEvents};
+ghost use Rattle.run_health.specs.Healthy.{MostEvents};
 
 use crate::one_list::OneList;
 use sim_base::{ListOf, Memory};

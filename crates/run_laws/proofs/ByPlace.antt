@@ -16,8 +16,8 @@ use Rattle.ssf_model.specs.Channels.{Sent, sent_by, numbered, raised, counted}
 use Rattle.ssf_model.specs.Run.{States, acts_at, writes_at, machine_of, counts_of, world_after}
 use Rattle.ssf_model.specs.Scene.{Net, Scene, scene_of, world_at, event_at, time_of, channel_of}
 use Rattle.ssf_model.specs.Truth.{writes_within, writes_on, has_channel, IsWrite, IsRunWrite, IsStretch, IsPromise, IsTrueParcel}
-use Rattle.run_laws.proofs.Lists.{different, place_of, place_more, place_among, among_place}
-use Rattle.run_laws.proofs.Counts.{raised_same}
+use Rattle.ssf_model.proofs.Lists.{different, place_of, place_more, place_among, among_place}
+use Rattle.ssf_model.proofs.Counts.{raised_same}
 
 -- ---- writes of any run
 

@@ -18,9 +18,7 @@ use Rattle.ssf_model.specs.Deliver.{IsModest, wake_of, reacted, delivered}
 use Rattle.ssf_model.specs.Channels.{delivered_to, entity_after}
 use Rattle.ssf_model.specs.Entities.{IsValidEntity}
 use Rattle.ssf_model.specs.Run.{States, acts_at, machine_of, opening, world_after, run_event, entry_by, entry_at, entries_from, run_entries, Fits}
-use Rattle.run_laws.specs.Healthy.{shape}
-use Rattle.run_laws.proofs.Lists.{each_append, each_all, at_mapped, mapped_length, map_set, within_of}
-use Rattle.run_laws.proofs.Along.{healthy_along, all_aligned, placed}
+use Rattle.ssf_model.proofs.Lists.{each_append, each_all, at_mapped, mapped_length, map_set, within_of}
 
 -- ---- what no action changes
 
@@ -55,37 +53,6 @@ module _ {S P T : Type 0} (r : Reaction S P) (look : S → T) (keeps : (s : S) (
   looks_alike {B} plan until kept n k e at =
       let found = at_mapped seen (world_after r plan until kept n).state.entities plan.entities k e (look_along plan.mappings until kept (opening plan) n) at in
       (found.0, found.1, sym found.2)
-
--- ---- states and entries of a plan that fits
-
-module _ {B S P : Type 0} (r : Reaction S P) (valid : Validity S) (carried : P → Type 0) (law : KeepsValid valid carried r) (modest : IsModest valid carried r)
-    (plan : Plan B S P) (until : ℕ) (in_time : until ≤ LatestTime) (fits : Fits valid carried plan) (kept : Key → Bool) where
-  pub valid_along : (n k : ℕ) (e : Entity B S P) → slice_get (world_after r plan until kept n).state.entities k ≡ Some e → IsValidEntity valid e
-  valid_along n k e at = ((healthy_along r valid carried law modest plan until in_time fits kept (λ j. 0) (all_aligned r valid carried law modest plan until in_time fits kept plan.mappings) n).entities k e at).is_valid
-
-  entry_entity : (o : Option (Entity B S P)) (e : Event P) → (entry_by r e o).entity ≡ e.entity
-  entry_entity None e = refl
-  entry_entity (Some en) e = refl
-
-  abbrev Named : Entry → Type 0
-  Named entry = entry.entity < length plan.entities
-
-  one_named : (n : ℕ) (o : Option (Event P)) → run_event r plan until kept n ≡ o → Each Named (option_list (option_map (entry_at r (world_after r plan until kept n).state.entities) o))
-  one_named n None h = tt
-  one_named n (Some e) h =
-      let p = placed r valid carried law modest plan until in_time fits kept n e h in
-      let x = (world_after r plan until kept n).state in
-      let within = within_of x.entities e.entity p.entity p.at in
-      let size = mapped_length shape x.entities plan.entities p.healthy.shapes in
-      let same = entry_entity (slice_get x.entities e.entity) e in
-      (omega arith, tt)
-
-  each_named : (n : ℕ) → Each Named (run_entries r plan until kept n)
-  each_named zero = tt
-  each_named (suc n) = each_append Named _ _ (each_named n) (one_named n (run_event r plan until kept n) refl)
-
-  pub entries_named : (n : ℕ) → All Named (run_entries r plan until kept n)
-  entries_named n = each_all Named _ (each_named n)
 
 -- ---- a run that goes on
 

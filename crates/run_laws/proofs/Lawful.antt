@@ -13,8 +13,8 @@ use Rattle.ssf_model.specs.Reaction.{Reaction, Each}
 use Rattle.ssf_model.specs.Channels.{Sent, sent_by, numbered, raised, counted}
 use Rattle.ssf_model.specs.Run.{States, acts_at, writes_at, machine_of, opening, counts_of}
 use Rattle.run_laws.specs.Openings.{OpensInOrder}
-use Rattle.run_laws.proofs.Lists.{each_among}
-use Rattle.run_laws.proofs.Counts.{raised_same, counted_grows, IsNumbered, numbered_is}
+use Rattle.ssf_model.proofs.Lists.{each_among}
+use Rattle.ssf_model.proofs.Counts.{raised_same, counted_grows, numbered_is, writes_rounded}
 
 numbered_apart : {P : Type 0} (key : Key) (counts : ℕ → ℕ) (ss : List (Sent P)) → IsApart (λ (e : Event P). e.key) (numbered key counts ss)
 numbered_apart key counts [] = tt
@@ -70,12 +70,6 @@ module _ {B S P : Type 0} (r : Reaction S P) (ms : List Mapping) where
     keeps = λ x e k h. known_kept x e k (slice_get x.entities e.entity) h;
   }
 
-  pub writes_rounded : (x : States B S P) (e b : Event P) (o : Option (Entity B S P)) → Among b (writes_at r ms x e o) →
-      ((b.key.round ≡ 0) × (e.key.time < b.key.time)) ⊎ ((b.key.round ≡ suc e.key.round) × (b.key.time ≡ e.key.time))
-  writes_rounded x e b None a = absurd a
-  writes_rounded x e b (Some entity) a = let n = numbered_is e.key x.counts (sent_by r ms e entity) b a in
-      rw n.key_is (child_cases e.key n.sent.delay n.sent.priority n.sent.channel n.number)
-
   -- every event may be executed in every state
   abbrev pub fine : States B S P → Event P → Type 0
   fine x e = Unit {0}
@@ -83,7 +77,7 @@ module _ {B S P : Type 0} (r : Reaction S P) (ms : List Mapping) where
   pub has_rounds : HasRounds (machine_of {B = B} r ms) fine (λ e d. Unit {0})
   unfolding machine_of
   has_rounds = record {
-    parented = λ x e b f a. elim (writes_rounded x e b (slice_get x.entities e.entity) a) [
+    parented = λ x e b f a. elim (writes_rounded r ms x e b (slice_get x.entities e.entity) a) [
       | inl later ↦ inl later
       | inr next ↦ inr (next.0, next.1, tt)
     ];

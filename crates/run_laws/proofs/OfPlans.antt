@@ -15,19 +15,9 @@ use Rattle.ssf_model.specs.declared.plan.Mapping.{Mapping}
 use Rattle.ssf_model.specs.declared.plan.Plan.{Plan}
 use Rattle.ssf_model.specs.Reaction.{Reaction}
 use Rattle.ssf_model.specs.Run.{States, machine_of, opening, run_event, run_events, entry_at, entries_from, run_entries, world_after}
+use Rattle.ssf_model.proofs.Entries.{same_entries}
 use Rattle.run_laws.specs.Openings.{OpensInOrder}
 use Rattle.run_laws.proofs.Lawful.{known, fine, lawful, has_rounds, opened, rounds_opened}
-
--- where two cuts lead through the same worlds, the entries are the same
-pub same_entries : {B S P : Type 0} (r : Reaction S P) (ms : List Mapping) (until : ℕ) (kept other : Key → Bool) (w : World (States B S P) (Event P)) (n : ℕ) →
-    ((k : ℕ) → k < n → after (machine_of r ms) until kept w k ≡ after (machine_of r ms) until other w k) →
-    entries_from r ms until kept w n ≡ entries_from r ms until other w n
-same_entries r ms until kept other w zero h = refl
-same_entries {B} {S} {P} r ms until kept other w (suc n) h =
-    ap (λ (v : World (States B S P) (Event P)). entries_from r ms until kept w n
-    ++ option_list (option_map (entry_at r v.state.entities) (due (machine_of {B = B} r ms).key until v.pending))) (h n (omega arith))
-    ∙ ap (λ (xs : List Entry). xs ++ option_list (option_map (entry_at r (after (machine_of r ms) until other w n).state.entities) (event (machine_of r ms) until other w n)))
-    (same_entries r ms until kept other w n (λ k l. h k (omega arith)))
 
 module _ {B S P : Type 0} (r : Reaction S P) (plan : Plan B S P) (until : ℕ) (opens : OpensInOrder plan) where
   pub plan_keys_rise : (kept : Key → Bool) (n k : ℕ) (e d : Event P) → n < k → run_event r plan until kept n ≡ Some e → run_event r plan until kept k ≡ Some d → IsBefore e.key d.key

@@ -14,7 +14,7 @@ use Rattle.ssf_model.specs.Reaction.{Validity, Each}
 use Rattle.ssf_model.specs.Drafts.{Draft, planned, start, all_timers}
 use Rattle.ssf_model.specs.Run.{Fits, IsPending, counts_of}
 use Rattle.run_laws.specs.Openings.{OpensInOrder}
-use Rattle.run_laws.proofs.Lists.{each_of}
+use Rattle.ssf_model.proofs.Lists.{each_of}
 
 pub fits_open : {B S P : Type 0} (valid : Validity S) (carried : P → Type 0) (plan : Plan B S P) → Fits valid carried plan → OpensInOrder plan
 fits_open valid carried plan fits = record {

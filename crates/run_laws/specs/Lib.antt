@@ -1,5 +1,1 @@
-pub mod Joined
 pub mod Openings
-pub mod Groups
-pub mod Healthy
-pub mod Writes

@@ -8,3 +8,6 @@ pub mod Fitted
 pub mod Checks
 pub mod Finding
 pub mod Reopened
+pub mod Lists
+pub mod Counts
+pub mod Entries

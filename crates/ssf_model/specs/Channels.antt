@@ -1,6 +1,6 @@
 -- From what an entity's actions write to events on channels: a write on an out-channel goes on each of its mappings,
 -- the end of a wait on the timer channel of its process, and each channel counts its writes.
-use Rattle.std.specs.Prelude.{ℕ, ◌+◌, cond, nat_eq, List, [], ◌∷◌, map, Option, Some, None, slice_get}
+use Rattle.std.specs.Prelude.{ℕ, ◌+◌, Bool, cond, nat_eq, List, [], ◌∷◌, map, Option, Some, None, slice_get}
 use Rattle.std.specs.List.{filter, flat_map}
 use Rattle.event_order.specs.declared.key.Key.{Key}
 use Rattle.event_order.specs.Order.{child_of}
@@ -68,3 +68,7 @@ abbrev pub numbered : {P : Type 0} → Key → (ℕ → ℕ) → List (Sent P) �
 numbered key counts [] = []
 numbered key counts (s ∷ ss) =
     record { key = child_of key s.delay s.priority s.channel (counts s.channel); entity = s.entity; kind = s.kind } ∷ numbered key (raised counts s.channel) ss
+
+-- the test that this is sent on channel c
+abbrev pub is_on : {P : Type 0} → ℕ → Sent P → Bool
+is_on c s = nat_eq s.channel c

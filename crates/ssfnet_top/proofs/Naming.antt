@@ -16,7 +16,7 @@ use Rattle.ring_model.specs.RingLaws.{ring_sound, ring_modest}
 use Rattle.net_build.specs.declared.built.Built.{Built}
 use Rattle.net_build.specs.RingModel.{RingKeys, Read, then_read, ring_of, built_of, build, ring_plan_of, is_long}
 use Rattle.ssf_model.specs.Run.{Fits, run_entries}
-use Rattle.run_laws.proofs.Continuing.{entries_named}
+use Rattle.run_health.proofs.Staying.{entries_named}
 
 -- each entry of a ring's run has a name where each entity has one
 pub names_fit : (plan : Plan Ring RingState RingPayload) (until budget names : ℕ) (entries given : List Entry) → until ≤ LatestTime → Fits IsRing AnyPayload plan

@@ -1,0 +1,9 @@
+pub mod Delivers
+pub mod Sends
+pub mod Writers
+pub mod Healths
+pub mod Fitting
+pub mod Along
+pub mod Staying
+pub mod OfFitting
+pub mod Grouped
