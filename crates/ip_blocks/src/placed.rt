@@ -124,6 +124,3 @@ pub fn assign(alloc: Global, links: &[LinkSize], nets: &[NetParent]) -> Result<B
         nets: nets.len(),
     })
 }
-
-#[cfg(test)]
-mod tests;

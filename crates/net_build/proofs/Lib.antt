@@ -7,4 +7,3 @@ pub mod Pieces
 pub mod Channels
 pub mod OneText
 mod WorkedLines
-pub mod TwoHosts

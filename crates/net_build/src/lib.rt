@@ -11,8 +11,6 @@ mod maps;
 mod names;
 mod ring;
 mod routes;
-#[cfg(test)]
-mod tests;
 mod text;
 
 pub use built::Built;

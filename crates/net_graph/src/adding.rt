@@ -90,13 +90,11 @@ fn copied_gateway(
 }
 
 impl Seen {
-    /// The top Net alone.
-    pub(crate) fn top(alloc: Global) -> Result<Seen, ShapeFault>
-        ensures top { IfOk result (λ seen. seen ≡ with_top empty) }
-        ensures few { IfOk result IsFew }
-        ensures cause { IfErr result (λ fault. fault ≡ ShapeFault.Memory) }
+    /// Nothing at all; takes no memory.
+    fn nothing(alloc: Global) -> Seen
+        ensures { result ≡ empty }
     {
-        let mut seen = Seen {
+        Seen {
             nets: ListOf::new(alloc),
             net_names: Paths::new(alloc),
             hosts: ListOf::new(alloc),
@@ -108,14 +106,33 @@ impl Seen {
             sessions: ListOf::new(alloc),
             traffic: ListOf::new(alloc),
             servers: 0,
-        };
+        }
+    }
+
+    /// Adds the top Net, where there is no Net.
+    fn add_top(&mut self, alloc: Global) -> Result<(), ShapeFault>
+        requires { self.old.net_names ≡ [] }
+        ensures added { OnOk result (self.new ≡ with_top self.old) }
+        ensures cause { IfErr result (λ fault. fault ≡ ShapeFault.Memory) }
+    {
         let path = IdPath::top(alloc);
-        seen.nets.push(NetRow {
+        self.nets.push(NetRow {
             parent: None,
             order: 0,
             ids: ListOf::new(alloc),
         })?;
-        seen.net_names.add(alloc, path.as_slice())?;
+        self.net_names.add(alloc, path.as_slice())?;
+        Ok(())
+    }
+
+    /// The top Net alone.
+    pub(crate) fn top(alloc: Global) -> Result<Seen, ShapeFault>
+        ensures top { IfOk result (λ seen. seen ≡ with_top empty) }
+        ensures few { IfOk result IsFew }
+        ensures cause { IfErr result (λ fault. fault ≡ ShapeFault.Memory) }
+    {
+        let mut seen = Seen::nothing(alloc);
+        seen.add_top(alloc)?;
         Ok(seen)
     }
 

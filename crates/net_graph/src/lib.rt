@@ -21,8 +21,6 @@ mod names;
 mod readers;
 mod rows;
 mod seen;
-#[cfg(test)]
-mod tests;
 mod walk;
 
 pub use fault::{ShapeFault, bad_nhi, bad_number, missing, too_many, unknown_session};

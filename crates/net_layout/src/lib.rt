@@ -15,8 +15,6 @@ mod gateways;
 pub mod laws;
 mod layout;
 mod limits;
-#[cfg(test)]
-mod tests;
 mod wiring;
 
 pub use arms::{address, attachment_of, first_interface, graph, place_of};

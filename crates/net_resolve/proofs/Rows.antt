@@ -24,7 +24,9 @@ use Rattle.net_graph.specs.ListKeys.{default_tcp}
 use Rattle.net_graph.specs.Reads.{Read, then_read}
 use Rattle.net_graph.specs.Steps.{is_server}
 use Rattle.net_graph.specs.NetworkOf.{Attachment, attachments, attachments_fault, full, gateway_row, host_at, host_rows, interface_at, client_at, server_at, server_rows, is_ospf, tcp_in, session_row, linked, link_rows, rows_with, rows_of}
+use Rattle.net_resolve.specs.declared.build.Parts.{Parts}
 use Rattle.net_resolve.specs.declared.hosts.HostSummary.{HostSummary}
+use Rattle.net_resolve.specs.Parts.{network_with}
 use Rattle.net_resolve.specs.Tables.{host_row}
 use Rattle.net_resolve.proofs.Turns.{later, onto, onto_cons, onto_end}
 
@@ -163,12 +165,12 @@ rows_fine f seen r fine e = ap (rows_with f seen (attachments seen)) fine ∙ e
 pub rows_stop : (f : ℕ) (seen : Seen) (fault : ShapeFault) → attachments_fault [] (attachments seen) ≡ Some fault → rows_of f seen ≡ Err fault
 rows_stop f seen fault e = ap (rows_with f seen (attachments seen)) e
 
-pub network_ends : (f : ℕ) (seen found : Seen) (r : Result Network ShapeFault) → found ≡ seen → attachments_fault [] (attachments found) ≡ None →
-    IfOk r (λ n. rows_with f found (attachments found) None ≡ Ok n) → IfOk r (λ n. rows_of f seen ≡ Ok n)
-network_ends f seen found (Ok n) same fine e = ap (rows_of f) (sym same) ∙ rows_fine f found (Ok n) fine e
-network_ends f seen found (Err fault) same fine e = tt
+pub parts_end : (f : ℕ) (found : Seen) (r : Result Parts ShapeFault) → attachments_fault [] (attachments found) ≡ None →
+    IfOk r (λ p. rows_with f found (attachments found) None ≡ Ok (network_with f found.nets p)) → IfOk r (λ p. rows_of f found ≡ Ok (network_with f found.nets p))
+parts_end f found (Ok p) fine e = rows_fine f found (Ok (network_with f found.nets p)) fine e
+parts_end f found (Err fault) fine e = tt
 
-pub network_stops : (f : ℕ) (seen found : Seen) (r : Result Network ShapeFault) → found ≡ seen → attachments_fault [] (attachments found) ≡ None →
-    IfErr r (λ e. (e ≡ Memory) ⊎ (rows_with f found (attachments found) None ≡ Err e)) → IfErr r (λ e. (e ≡ Memory) ⊎ (rows_of f seen ≡ Err e))
-network_stops f seen found (Ok n) same fine e = tt
-network_stops f seen found (Err fault) same fine e = later (λ h. ap (rows_of f) (sym same) ∙ rows_fine f found (Err fault) fine h) e
+pub parts_stop : (f : ℕ) (found : Seen) (r : Result Parts ShapeFault) → attachments_fault [] (attachments found) ≡ None →
+    IfErr r (λ e. (e ≡ Memory) ⊎ (rows_with f found (attachments found) None ≡ Err e)) → IfErr r (λ e. (e ≡ Memory) ⊎ (rows_of f found ≡ Err e))
+parts_stop f found (Ok p) fine e = tt
+parts_stop f found (Err fault) fine e = later (λ h. rows_fine f found (Err fault) fine h) e

@@ -1,2 +1,3 @@
 -- Definitions that the contracts of this crate's own functions cite.
 pub mod Tables
+pub mod Parts

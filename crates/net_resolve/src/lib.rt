@@ -3,7 +3,8 @@
 //! servers of patterns. It is one pass over each kind of part, with tables by number.
 //!
 //! Contracts cite `NetworkOf` (the network of a tree, or its first fault) and `Networks` (what every
-//! network meets) of the specs of `net_graph`. Those of inner functions cite `specs/Tables.antt` too.
+//! network meets) of the specs of `net_graph`. Those of inner functions cite `specs/Tables.antt` and
+//! `specs/Parts.antt` too.
 #![tactic(auto)]
 
 mod build;
@@ -11,7 +12,5 @@ mod found;
 mod hosts;
 mod links;
 mod servers;
-#[cfg(test)]
-mod tests;
 
 pub use build::build_network;

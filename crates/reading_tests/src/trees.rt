@@ -11,67 +11,68 @@ fn printed(alloc: Global, tree: &Tree) -> Result<Vec<u8>, Fail> {
 }
 
 // Each text, and its canonical printing or its fault.
+const TEXTS: [(&[u8], Result<&[u8], TreeFault>); 42] = [
+    (b"a [ b \"x y\" # c", Err(TreeFault::OpenList(2))),
+    (b"a", Err(TreeFault::ValueWanted(1))),
+    (b"]", Err(TreeFault::StrayClose(0))),
+    (b"\"k\" v", Err(TreeFault::KeyWanted(0))),
+    (b"a \"x", Err(TreeFault::OpenQuote(2))),
+    (b"\x01", Err(TreeFault::BadByte(0))),
+    (b"a [ ]]", Err(TreeFault::StrayClose(5))),
+    (b"", Ok(b"")),
+    (b" \t\r\n# nothing", Ok(b"")),
+    // a value is wanted
+    (b"a [ b ] c d", Err(TreeFault::ValueWanted(6))),
+    (b"a[b]\"c\" # d [\n", Err(TreeFault::ValueWanted(3))),
+    (b"a # b", Err(TreeFault::ValueWanted(5))),
+    (b"a [ b", Err(TreeFault::ValueWanted(5))),
+    (b"a b c \r\n", Err(TreeFault::ValueWanted(8))),
+    // a key is wanted
+    (b"a [ [", Err(TreeFault::KeyWanted(4))),
+    (b"a[b c]\"d\" e", Err(TreeFault::KeyWanted(6))),
+    (b"a b [", Err(TreeFault::KeyWanted(4))),
+    // a list is open
+    (b"a [ b [", Err(TreeFault::OpenList(6))),
+    (b"a [ b [ c d ]", Err(TreeFault::OpenList(2))),
+    (b"a[b[c\"]\"]#]\n#]", Err(TreeFault::OpenList(1))),
+    // faults of tokens go before all others
+    (b"] \"", Err(TreeFault::OpenQuote(2))),
+    (b"a \x7f", Err(TreeFault::BadByte(2))),
+    (b"] ] \x0b \"", Err(TreeFault::BadByte(4))),
+    (b"a b\r#c\rd \"\n\x02", Err(TreeFault::BadByte(11))),
+    // comments
+    (b"a#b\nc", Ok(b"a c\n")),
+    (b"a b#c [ \" \x00\xff\n#\n", Ok(b"a b\n")),
+    (b"a b # c\r d e\n", Ok(b"a b\n")),
+    // ends of lines by CR and LF
+    (b"a b\r\nc [\r\n  d e\r\n]\r\n", Ok(b"a b\nc [\n  d e\n]\n")),
+    // a bracket, a quote or a `#` ends a word
+    (b"a[b c]d\"e\"", Ok(b"a [\n  b c\n]\nd e\n")),
+    (b"a\"b\"c d#e", Ok(b"a b\nc d\n")),
+    (b"a\"b\"\"c\" d", Err(TreeFault::KeyWanted(4))),
+    // quoted texts hold all bytes but a quote
+    (b"a \"[#]\" b \"]\"", Ok(b"a \"[#]\"\nb \"]\"\n")),
+    (b"a \"\x00\x7f\t\r\n\"", Ok(b"a \"\x00\x7f\t\r\n\"\n")),
+    (b"a \"\" b \"  \"", Ok(b"a \"\"\nb \"  \"\n")),
+    (b"a \"b\" b b", Ok(b"a b\nb b\n")),
+    // bytes from 0x80 on
+    (b"\x80 \"\xff\"", Ok(b"\x80 \xff\n")),
+    (b"\xc3\xa9 \"y \xc3\xa9\"", Ok(b"\xc3\xa9 \"y \xc3\xa9\"\n")),
+    // the first and the last byte of words
+    (b"! ~", Ok(b"! ~\n")),
+    (b"_find .a.b", Ok(b"_find .a.b\n")),
+    // lists
+    (b"a[]", Ok(b"a [\n]\n")),
+    (
+        b"a [ b [ c d ] e f ] g [ ]",
+        Ok(b"a [\n  b [\n    c d\n  ]\n  e f\n]\ng [\n]\n"),
+    ),
+    (b"a b a c", Ok(b"a b\na c\n")),
+];
+
 #[test]
 fn texts_have_their_trees_and_faults(rt: HostRuntime) -> Result<(), Fail> {
-    let rows: [(&[u8], Result<&[u8], TreeFault>); 42] = [
-        (b"a [ b \"x y\" # c", Err(TreeFault::OpenList(2))),
-        (b"a", Err(TreeFault::ValueWanted(1))),
-        (b"]", Err(TreeFault::StrayClose(0))),
-        (b"\"k\" v", Err(TreeFault::KeyWanted(0))),
-        (b"a \"x", Err(TreeFault::OpenQuote(2))),
-        (b"\x01", Err(TreeFault::BadByte(0))),
-        (b"a [ ]]", Err(TreeFault::StrayClose(5))),
-        (b"", Ok(b"")),
-        (b" \t\r\n# nothing", Ok(b"")),
-        // a value is wanted
-        (b"a [ b ] c d", Err(TreeFault::ValueWanted(6))),
-        (b"a[b]\"c\" # d [\n", Err(TreeFault::ValueWanted(3))),
-        (b"a # b", Err(TreeFault::ValueWanted(5))),
-        (b"a [ b", Err(TreeFault::ValueWanted(5))),
-        (b"a b c \r\n", Err(TreeFault::ValueWanted(8))),
-        // a key is wanted
-        (b"a [ [", Err(TreeFault::KeyWanted(4))),
-        (b"a[b c]\"d\" e", Err(TreeFault::KeyWanted(6))),
-        (b"a b [", Err(TreeFault::KeyWanted(4))),
-        // a list is open
-        (b"a [ b [", Err(TreeFault::OpenList(6))),
-        (b"a [ b [ c d ]", Err(TreeFault::OpenList(2))),
-        (b"a[b[c\"]\"]#]\n#]", Err(TreeFault::OpenList(1))),
-        // faults of tokens go before all others
-        (b"] \"", Err(TreeFault::OpenQuote(2))),
-        (b"a \x7f", Err(TreeFault::BadByte(2))),
-        (b"] ] \x0b \"", Err(TreeFault::BadByte(4))),
-        (b"a b\r#c\rd \"\n\x02", Err(TreeFault::BadByte(11))),
-        // comments
-        (b"a#b\nc", Ok(b"a c\n")),
-        (b"a b#c [ \" \x00\xff\n#\n", Ok(b"a b\n")),
-        (b"a b # c\r d e\n", Ok(b"a b\n")),
-        // ends of lines by CR and LF
-        (b"a b\r\nc [\r\n  d e\r\n]\r\n", Ok(b"a b\nc [\n  d e\n]\n")),
-        // a bracket, a quote or a `#` ends a word
-        (b"a[b c]d\"e\"", Ok(b"a [\n  b c\n]\nd e\n")),
-        (b"a\"b\"c d#e", Ok(b"a b\nc d\n")),
-        (b"a\"b\"\"c\" d", Err(TreeFault::KeyWanted(4))),
-        // quoted texts hold all bytes but a quote
-        (b"a \"[#]\" b \"]\"", Ok(b"a \"[#]\"\nb \"]\"\n")),
-        (b"a \"\x00\x7f\t\r\n\"", Ok(b"a \"\x00\x7f\t\r\n\"\n")),
-        (b"a \"\" b \"  \"", Ok(b"a \"\"\nb \"  \"\n")),
-        (b"a \"b\" b b", Ok(b"a b\nb b\n")),
-        // bytes from 0x80 on
-        (b"\x80 \"\xff\"", Ok(b"\x80 \xff\n")),
-        (b"\xc3\xa9 \"y \xc3\xa9\"", Ok(b"\xc3\xa9 \"y \xc3\xa9\"\n")),
-        // the first and the last byte of words
-        (b"! ~", Ok(b"! ~\n")),
-        (b"_find .a.b", Ok(b"_find .a.b\n")),
-        // lists
-        (b"a[]", Ok(b"a [\n]\n")),
-        (
-            b"a [ b [ c d ] e f ] g [ ]",
-            Ok(b"a [\n  b [\n    c d\n  ]\n  e f\n]\ng [\n]\n"),
-        ),
-        (b"a b a c", Ok(b"a b\na c\n")),
-    ];
-    for (bytes, wanted) in rows {
+    for (bytes, wanted) in TEXTS {
         match (read(rt.alloc(), 3, bytes), wanted) {
             (Ok(tree), Ok(lines)) => {
                 assert!(rt; goes_back(rt.alloc(), &tree, lines)?, "{bytes:?}");

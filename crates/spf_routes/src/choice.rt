@@ -34,33 +34,3 @@ fn better(routes: &[Route], address: u32, best: Option<usize>, place: usize) -> 
         Some(old) => Some(old),
     }
 }
-
-#[cfg(test)]
-mod tests {
-    use super::*;
-    use ip_blocks::Block;
-
-    fn route(base: u32, bits: u8) -> Route {
-        Route {
-            block: Block { base, bits },
-            interface: 0,
-            next: 0,
-            cost: 1,
-        }
-    }
-
-    #[test]
-    fn takes_the_longest_and_the_first(rt: HostRuntime) {
-        let base = 10 << 24;
-        let nested = [
-            route(0, 0),
-            route(base, 28),
-            route(base + 8, 30),
-            route(base + 8, 30),
-        ];
-        for (address, place) in [(base + 9, Some(2)), (base + 1, Some(1)), (1, Some(0))] {
-            assert_eq!(rt; best(&nested, address), place);
-        }
-        assert_eq!(rt; best(&[route(base, 28)], base + 16), None);
-    }
-}

@@ -182,6 +182,3 @@ pub fn shortest(alloc: Global, graph: &Graph, from: u32) -> Result<Vec<Route>, M
     let best = settle(alloc, starts.as_slice(), edges.as_slice())?;
     table(alloc, blocks, direct.as_slice(), best.as_slice())
 }
-
-#[cfg(test)]
-mod tests;

@@ -20,6 +20,3 @@ pub use report::report_text;
 pub use tally::Tally;
 pub use total::Total;
 pub use trace::{end_line, trace_line};
-
-#[cfg(test)]
-mod tests;

@@ -1,43 +1,10 @@
-use Rattle.std.proofs.Common.{◌≡◌, ℕ, length, replicate, None, arith, ap, sym, ◌∙◌, subst}
-use Rattle.std.proofs.lemmas.List.{with_items_is}
-use Rattle.net_graph.specs.declared.seen.Seen.{Seen}
-use Rattle.net_graph.specs.NetworkOf.{attachments, rows_of}
-use Rattle.net_resolve.specs.Tables.{Places, IsTable}
-use Rattle.net_resolve.proofs.Attaching.{seen_attached, seen_stopped}
-use Rattle.net_resolve.proofs.Rows.{rows_stop, network_ends, network_stops}
+use Rattle.std.proofs.Common.{ap, sym, ◌∙◌}
+use Rattle.net_graph.specs.NetworkOf.{rows_of}
 use Rattle.net_resolve.proofs.Turns.{exit, later}
 use Rattle.net_resolve.proofs.build.rows_of.Goals as goal
 
-abbrev none : ℕ → Places
-none n = replicate n None
-
-pub returns-in_err-links-clause-cause : goal.returns-in_err-links-clause-cause
-returns-in_err-links-clause-cause c =
-    let f = c.args.frequency in let found = c.in_ok-found.found in let p = c.as_mut_slice.result.now in let fault = c.in_err-links.field-0.0 in
-    let is : p ≡ none (length found.interfaces) =
-    c.as_mut_slice.ensures.value ∙ (c.in_ok-places.ensures.none ∙ ap none (c.len.ensures ∙ ap (λ (w : Seen). length w.interfaces) c.seen.ensures.seen)) in
-    exit (rows_of f c.args.seen) c.from_residual-in_err-links.result fault c.from_residual-in_err-links.ensures.1
-    (later (λ e. ap (rows_of f) (sym c.in_ok-found.ensures.found) ∙ rows_stop f found fault (seen_stopped found p fault c.seen.ensures.few.rows is e)) c.in_err-links.ensures.cause)
-
-pub rows_with-requires-clause-table : goal.rows_with-requires-clause-table
-rows_with-requires-clause-table c =
-    let found = c.in_ok-found.found in let p = c.as_mut_slice.result.now in let q = c.attach_all.new.places in
-    let is : p ≡ none (length found.interfaces) =
-    c.as_mut_slice.ensures.value ∙ (c.in_ok-places.ensures.none ∙ ap none (c.len.ensures ∙ ap (λ (w : Seen). length w.interfaces) c.seen.ensures.seen)) in
-    let kept : length q ≡ c.in_ok-places.places.len = omega (arith, c.attach_all.auto.places, c.as_mut_slice.ensures.len) in
-    let same : c.as_slice.result.now ≡ q = c.as_slice.ensures.value ∙ with_items_is c.in_ok-places.places q kept in
-    subst (λ (t : Places). IsTable (attachments found) t) (sym same) (seen_attached found p q c.seen.ensures.few.rows is c.in_ok-links.ensures.put).table
-
-pub returns-clause-network : goal.returns-clause-network
-returns-clause-network c =
-    let found = c.in_ok-found.found in let p = c.as_mut_slice.result.now in let q = c.attach_all.new.places in
-    let is : p ≡ none (length found.interfaces) =
-    c.as_mut_slice.ensures.value ∙ (c.in_ok-places.ensures.none ∙ ap none (c.len.ensures ∙ ap (λ (w : Seen). length w.interfaces) c.seen.ensures.seen)) in
-    network_ends c.args.frequency c.args.seen found c.rows_with.result c.in_ok-found.ensures.found (seen_attached found p q c.seen.ensures.few.rows is c.in_ok-links.ensures.put).fine c.rows_with.ensures.network
-
-pub returns-clause-cause : goal.returns-clause-cause
-returns-clause-cause c =
-    let found = c.in_ok-found.found in let p = c.as_mut_slice.result.now in let q = c.attach_all.new.places in
-    let is : p ≡ none (length found.interfaces) =
-    c.as_mut_slice.ensures.value ∙ (c.in_ok-places.ensures.none ∙ ap none (c.len.ensures ∙ ap (λ (w : Seen). length w.interfaces) c.seen.ensures.seen)) in
-    network_stops c.args.frequency c.args.seen found c.rows_with.result c.in_ok-found.ensures.found (seen_attached found p q c.seen.ensures.few.rows is c.in_ok-links.ensures.put).fine c.rows_with.ensures.cause
+pub returns-in_err-parts-clause-cause : goal.returns-in_err-parts-clause-cause
+returns-in_err-parts-clause-cause c =
+    let f = c.args.frequency in let fault = c.in_err-parts.field-0.0 in
+    exit (rows_of f c.args.seen) c.from_residual-in_err-parts.result fault c.from_residual-in_err-parts.ensures.1
+    (later (λ e. ap (rows_of f) (sym c.in_ok-found.ensures.found) ∙ e) c.in_err-parts.ensures.cause)
