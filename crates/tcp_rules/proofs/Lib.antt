@@ -1,0 +1,9 @@
+pub mod Cases
+pub mod ClientRanges
+pub mod Delivering
+pub mod Holes
+pub mod Receiving
+pub mod Sending
+pub mod ServerRanges
+pub mod Sessions
+mod Worked

@@ -1,0 +1,2 @@
+pub mod DataLoop
+pub mod Scanning

@@ -1,0 +1,4 @@
+pub mod ClientViews
+pub mod Rising
+pub mod ServerViews
+pub mod SessionViews
