@@ -1,8 +1,9 @@
 //! Entities whose processes wait for times.
 
-ghost use Rattle.std.specs.Prelude.{◌≡◌, ◌↔◌, ◌∷◌, [], ℕ, true, map, IfOk, IsTrue};
+ghost use Rattle.std.specs.Prelude.{◌≡◌, ◌↔◌, ◌∷◌, [], ℕ, true, map, IfOk, IfErr, IsTrue};
 ghost use Rattle.ssf_model.specs.Reaction.{is_timed};
 ghost use Rattle.ssf_model.specs.Drafts.{planned};
+ghost use Rattle.ssf_model.specs.Run.{Fits};
 ghost use Rattle.global_list.specs.Healthy.{IsRunnable};
 ghost use Rattle.list_examples.specs.Timers.{IsTicker, IsListener, AnySignal, ticker_draft, listener_draft};
 
@@ -162,10 +163,12 @@ impl Behaviour for Listener {
     }
 }
 
-/// A plan of one entity that ticks.
+/// A plan of one entity that ticks; it is refused for want of memory alone.
 pub fn ticker_plan(alloc: Global) -> Result<Plan<Ticker>, BuildFault>
     ensures made { IfOk result (λ plan. plan ≡ planned ticker_draft) }
+    ensures fits { IfOk result (λ plan. Fits IsTicker AnySignal plan) }
     ensures runs { IfOk result (λ plan. IsRunnable IsTicker AnySignal plan) }
+    ensures cause { IfErr result (λ fault. fault ≡ BuildFault.Memory) }
 {
     let mut builder = PlanBuilder::new(alloc, Ticker {})?;
     if let Err((_, fault)) = builder.entity(Idle {}, &[true]) {
@@ -175,10 +178,13 @@ pub fn ticker_plan(alloc: Global) -> Result<Plan<Ticker>, BuildFault>
     Ok(plan)
 }
 
-/// A plan of one entity with a listener, whose out-channel leads back to it without delay.
+/// A plan of one entity with a listener, whose out-channel leads back to it without delay; it is
+/// refused for want of memory alone.
 pub fn listener_plan(alloc: Global) -> Result<Plan<Listener>, BuildFault>
     ensures made { IfOk result (λ plan. plan ≡ planned listener_draft) }
+    ensures fits { IfOk result (λ plan. Fits IsListener AnySignal plan) }
     ensures runs { IfOk result (λ plan. IsRunnable IsListener AnySignal plan) }
+    ensures cause { IfErr result (λ fault. fault ≡ BuildFault.Memory) }
 {
     let mut builder = PlanBuilder::new(alloc, Listener {})?;
     if let Err((_, fault)) = builder.entity(Idle {}, &[true, true]) {
