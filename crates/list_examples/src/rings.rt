@@ -2,11 +2,12 @@
 
 ghost use Rattle.std.specs.Prelude.{◌≡◌, ◌≤◌, ◌<◌, ◌⊎◌, ◌↔◌, ℕ, length, IfOk, IfErr, IsTrue, Some};
 ghost use Rattle.std.specs.List.{All};
+ghost use Rattle.ssf_model.specs.Deliver.{MostWrites};
 ghost use Rattle.ssf_model.specs.Drafts.{planned};
+ghost use Rattle.ssf_model.specs.Run.{Fits};
 ghost use Rattle.ring_model.specs.Reacting.{IsRing, AnyPayload};
 ghost use Rattle.ring_model.specs.Rings.{ring_draft, with_hops, ring_refusal};
-ghost use Rattle.ssf_model.specs.Run.{Fits};
-ghost use Rattle.list_examples.specs.RingFaults.{IsCause, MostTokens};
+ghost use Rattle.list_examples.specs.RingFaults.{AreKnown, IsCause};
 
 use ring_model::{Hop, Ring, ring_builder};
 use ssf_model::{BuildFault, Plan};
@@ -35,7 +36,8 @@ pub fn ring_plan(
     hops: &[Hop],
 ) -> Result<Plan<Ring>, RingFault>
     ensures made { IfOk result (λ plan. plan ≡ planned (with_hops (ring_draft (record {}) nodes tokens.now) hops.now)) }
-    ensures runs { IfOk result (λ plan. Fits IsRing AnyPayload plan) }
+    ensures fits { IfOk result (λ plan. Fits IsRing AnyPayload plan) }
+    ensures known { IfOk result (λ _. (length tokens.now ≤ MostWrites) × AreKnown nodes tokens.now hops.now) }
     ensures cause { IfErr result (λ fault. IsCause nodes tokens.now hops.now fault) }
 {
     if tokens.len() > MOST_TOKENS {
@@ -59,9 +61,9 @@ fn known_ring_plan(
 ) -> Result<Plan<Ring>, BuildFault>
     requires tokens { All (λ t. t < nodes) tokens.now }
     requires hops { All (λ h. (h.from < nodes) × (h.to < nodes)) hops.now }
-    requires few { length tokens.now ≤ MostTokens }
+    requires few { length tokens.now ≤ MostWrites }
     ensures made { IfOk result (λ plan. plan ≡ planned (with_hops (ring_draft (record {}) nodes tokens.now) hops.now)) }
-    ensures runs { IfOk result (λ plan. Fits IsRing AnyPayload plan) }
+    ensures fits { IfOk result (λ plan. Fits IsRing AnyPayload plan) }
     ensures cause { IfErr result (λ fault. (fault ≡ BuildFault.Memory) ⊎ (ring_refusal (record {}) nodes tokens.now hops.now ≡ Some fault)) }
 {
     let builder = ring_builder(alloc, nodes, tokens, hops)?;

@@ -1,6 +1,6 @@
 //! Entities whose processes wait for times.
 
-ghost use Rattle.std.specs.Prelude.{◌≡◌, ◌↔◌, ◌∷◌, [], ℕ, true, map, IfOk, IsTrue};
+ghost use Rattle.std.specs.Prelude.{◌≡◌, ◌↔◌, ◌∷◌, [], ℕ, true, map, IfOk, IfErr, IsTrue};
 ghost use Rattle.ssf_model.specs.Reaction.{is_timed};
 ghost use Rattle.ssf_model.specs.Drafts.{planned};
 ghost use Rattle.ssf_model.specs.Run.{Fits};
@@ -162,10 +162,11 @@ impl Behaviour for Listener {
     }
 }
 
-/// A plan of one entity that ticks.
+/// A plan of one entity that ticks; it is refused for want of memory alone.
 pub fn ticker_plan(alloc: Global) -> Result<Plan<Ticker>, BuildFault>
     ensures made { IfOk result (λ plan. plan ≡ planned ticker_draft) }
-    ensures runs { IfOk result (λ plan. Fits IsTicker AnySignal plan) }
+    ensures fits { IfOk result (λ plan. Fits IsTicker AnySignal plan) }
+    ensures cause { IfErr result (λ fault. fault ≡ BuildFault.Memory) }
 {
     let mut builder = PlanBuilder::new(alloc, Ticker {})?;
     if let Err((_, fault)) = builder.entity(Idle {}, &[true]) {
@@ -175,10 +176,12 @@ pub fn ticker_plan(alloc: Global) -> Result<Plan<Ticker>, BuildFault>
     Ok(plan)
 }
 
-/// A plan of one entity with a listener, whose out-channel leads back to it without delay.
+/// A plan of one entity with a listener, whose out-channel leads back to it without delay; it is
+/// refused for want of memory alone.
 pub fn listener_plan(alloc: Global) -> Result<Plan<Listener>, BuildFault>
     ensures made { IfOk result (λ plan. plan ≡ planned listener_draft) }
-    ensures runs { IfOk result (λ plan. Fits IsListener AnySignal plan) }
+    ensures fits { IfOk result (λ plan. Fits IsListener AnySignal plan) }
+    ensures cause { IfErr result (λ fault. fault ≡ BuildFault.Memory) }
 {
     let mut builder = PlanBuilder::new(alloc, Listener {})?;
     if let Err((_, fault)) = builder.entity(Idle {}, &[true, true]) {

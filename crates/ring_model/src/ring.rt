@@ -3,6 +3,7 @@
 ghost use Rattle.std.specs.Prelude.{◌≡◌, ◌<◌, ◌≤◌, ◌^◌, ◌⊎◌, ◌++◌, ◌↔◌, ◌∷◌, [], false, ℕ, length, nat_eq, map, replicate, slice_index, IsTrue, OnOk, IfOk, IfErr, None, Some};
 ghost use Rattle.std.specs.List.{All, count_by};
 ghost use Rattle.ssf_model.specs.Reaction.{is_timed, Each};
+ghost use Rattle.ssf_model.specs.Deliver.{MostWrites};
 ghost use Rattle.ssf_model.specs.Drafts.{entity_refusal, IsValidDraft, MostChannels};
 ghost use Rattle.ring_model.specs.Reacting.{AreOnePatient, IsRing, token};
 ghost use Rattle.ring_model.specs.Rings.{ring_draft, with_hops, hops_refusal, ring_refusal, tokens_of, node_of, with_node};
@@ -213,7 +214,7 @@ pub fn ring_builder(
 ) -> Result<PlanBuilder<Ring>, BuildFault>
     requires tokens { All (λ t. t < nodes) tokens.now }
     requires hops { All (λ h. (h.from < nodes) × (h.to < nodes)) hops.now }
-    requires few { length tokens.now ≤ 4194304 }
+    requires few { length tokens.now ≤ MostWrites }
     ensures made { IfOk result (λ builder. (ring_refusal (record {}) nodes tokens.now hops.now ≡ None) × (builder ≡ with_hops (ring_draft (record {}) nodes tokens.now) hops.now)) }
     ensures valid { IfOk result (λ builder. Each (IsValidDraft IsRing) builder.entities) }
     ensures cause { IfErr result (λ fault. (fault ≡ BuildFault.Memory) ⊎ (ring_refusal (record {}) nodes tokens.now hops.now ≡ Some fault)) }
