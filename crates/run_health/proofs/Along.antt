@@ -1,13 +1,12 @@
 -- What holds all along the run of a plan that fits, whatever its cut: it stays healthy.
-use Rattle.std.proofs.Common.{◌≡◌, ℕ, zero, suc, ◌+◌, ◌*◌, ◌^◌, ◌<◌, ◌≤◌, Bool, true, false, nat_eq, List, [], ◌∷◌, ◌++◌, filter, length, refl, sym, ap, ◌∙◌, subst, inl, inr, arith, count_by, Some, None, slice_get, eqb-true, eq-eqb}
+use Rattle.std.proofs.Common.{◌≡◌, ℕ, zero, suc, ◌+◌, ◌*◌, ◌^◌, ◌<◌, ◌≤◌, Bool, false, nat_eq, List, [], ◌∷◌, filter, length, refl, sym, ap, ◌∙◌, subst, inl, inr, arith, count_by, Some, slice_get, eqb-true, eq-eqb}
 use Rattle.event_order.specs.declared.key.Key.{Key}
 use Rattle.event_order.specs.Pending.{Among, put_all}
 use Rattle.event_order.proofs.Pending.{test_cases, among_put_all_other, among_put_all_self, put_all_among, filter_among}
-use Rattle.event_order.specs.Machine.{World, executed, after}
+use Rattle.event_order.specs.Machine.{World, executed}
 use Rattle.event_order.proofs.Steps.{step_cases, event_pending, event_in_time}
 use Rattle.event_order.specs.Run.{share}
 use Rattle.event_order.proofs.Local.{share_own, share_other, share_over}
-use Rattle.ssf_model.specs.declared.out.Written.TheVariants.{Channel}
 use Rattle.ssf_model.specs.declared.event.Event.{Event}
 use Rattle.ssf_model.specs.declared.process.Process.{Process}
 use Rattle.ssf_model.specs.declared.entity.Entity.{Entity}

@@ -1,22 +1,19 @@
 -- A group of entities of a plan that fits depends on its own events alone.
-use Rattle.std.proofs.Common.{◌≡◌, ℕ, zero, suc, ◌+◌, ◌<◌, ◌≤◌, Bool, true, false, cond, nat_eq, List, [], ◌∷◌, ◌++◌, map, length, refl, sym, ap, ◌∙◌, subst, inl, inr, arith, count_by, Option, Some, None, slice_get, slice_set, option_to_list, eqb-true}
-use Rattle.std.specs.List.{flat_map, range_with_len}
+use Rattle.std.proofs.Common.{◌≡◌, ℕ, ◌+◌, ◌≤◌, Bool, true, false, cond, nat_eq, List, [], ◌∷◌, length, refl, sym, ap, ◌∙◌, subst, inl, inr, arith, count_by, Option, Some, None, slice_get, slice_set, eqb-true}
 use Rattle.event_order.specs.declared.key.Key.{Key}
 use Rattle.event_order.specs.Order.{child_of}
 use Rattle.event_order.specs.Pending.{Among}
-use Rattle.event_order.proofs.Pending.{test_cases, among_append_left, among_append_right}
+use Rattle.event_order.proofs.Pending.{test_cases}
 use Rattle.event_order.specs.Run.{share, acted}
 use Rattle.event_order.specs.Laws.{IsLocal}
 use Rattle.event_order.proofs.Local.{own_state}
 use Rattle.ssf_model.specs.declared.event.Event.{Event}
-use Rattle.ssf_model.specs.declared.process.Process.{Process}
 use Rattle.ssf_model.specs.declared.entity.Entity.{Entity}
-use Rattle.ssf_model.specs.declared.plan.Mapping.{Mapping}
 use Rattle.ssf_model.specs.declared.plan.Plan.{Plan}
 use Rattle.ssf_model.specs.Reaction.{Reaction, Validity, KeepsValid, LatestTime}
 use Rattle.ssf_model.specs.Deliver.{IsModest}
-use Rattle.ssf_model.specs.Channels.{Sent, timer_of, delivered_to, entity_after, sent_by, raised, numbered}
-use Rattle.ssf_model.specs.Run.{States, acts_at, writes_at, machine_of, opening, world_after, run_event, Fits, timers_of, HasAt}
+use Rattle.ssf_model.specs.Channels.{Sent, delivered_to, entity_after, sent_by, raised, numbered}
+use Rattle.ssf_model.specs.Run.{States, acts_at, writes_at, machine_of, opening, world_after, run_event, Fits}
 use Rattle.run_health.specs.Groups.{is_own, IsWriterOn, IsSameGroup}
 use Rattle.ssf_model.specs.Channels.{is_on}
 use Rattle.ssf_model.proofs.Lists.{different, get_set_own, get_set_other, within_of}

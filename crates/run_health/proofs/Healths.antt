@@ -1,15 +1,13 @@
 -- The run stays healthy from one event to the next.
-use Rattle.std.proofs.Common.{◌≡◌, ◌⊎◌, ℕ, zero, suc, ◌+◌, ◌*◌, ◌<◌, ◌≤◌, nat_eq, List, [], ◌∷◌, ◌++◌, map, length, refl, sym, ap, ◌∙◌, subst, inl, inr, arith, cond, count_by, Option, Some, None, IfSome, is_some, slice_get, slice_set, length-set, length-append, option_to_list, eqb-true}
+use Rattle.std.proofs.Common.{◌≡◌, ℕ, zero, suc, ◌+◌, ◌*◌, ◌<◌, ◌≤◌, nat_eq, List, [], ◌∷◌, map, length, refl, sym, ap, ◌∙◌, subst, inl, inr, arith, cond, count_by, Option, Some, None, is_some, slice_get, slice_set, length-set, length-append, option_to_list, eqb-true}
 use Rattle.std.specs.List.{flat_map}
 use Rattle.event_order.specs.declared.key.Key.{Key}
-use Rattle.event_order.specs.Order.{child_of}
 use Rattle.event_order.specs.Pending.{Among, put_all}
 use Rattle.event_order.proofs.Order.{child_cases}
 use Rattle.event_order.proofs.Pending.{test_cases, put_all_among}
 use Rattle.ssf_model.specs.declared.wait.Wake.{Wake}
 use Rattle.ssf_model.specs.declared.wait.Kind.{Kind}
 use Rattle.ssf_model.specs.declared.wait.Kind.TheVariants.{Begin, Timer, Message}
-use Rattle.ssf_model.specs.declared.out.Written.{Written}
 use Rattle.ssf_model.specs.declared.out.Written.TheVariants.{Channel, Timer as TimerWrite}
 use Rattle.ssf_model.specs.declared.event.Event.{Event}
 use Rattle.ssf_model.specs.declared.process.Process.{Process}
@@ -19,12 +17,12 @@ use Rattle.ssf_model.specs.declared.plan.Plan.{Plan}
 use Rattle.ssf_model.specs.Reaction.{Reaction, Validity, KeepsValid, LatestTime, LongestDelay, Each, is_timed}
 use Rattle.ssf_model.specs.Deliver.{IsModest, IsCarried, MostWrites, wake_of, reacted, delivered}
 use Rattle.ssf_model.specs.Drafts.{MostChannels}
-use Rattle.ssf_model.specs.Channels.{Sent, timer_of, delivered_to, entity_after, sent_by, counted, numbered}
+use Rattle.ssf_model.specs.Channels.{Sent, delivered_to, entity_after, sent_by, counted, numbered}
 use Rattle.ssf_model.specs.Run.{States, HasAt, IsEndFor, IsOnChannel, IsMappingOf, IsWired, timers_of}
-use Rattle.run_health.specs.Groups.{IsTimerOf, IsWriterOn}
+use Rattle.run_health.specs.Groups.{IsWriterOn}
 use Rattle.ssf_model.specs.Channels.{is_on}
 use Rattle.run_health.specs.Healthy.{MostTicket, MostSent, Shape, shape, timer_at, IsHealthyEntity, IsHealthyEvent, IsHealthy}
-use Rattle.ssf_model.proofs.Lists.{different, each_get, each_among, each_of, get_set_own, get_set_other, at_mapped, mapped_length, map_set, within_of, count_cons}
+use Rattle.ssf_model.proofs.Lists.{different, each_among, each_of, get_set_own, get_set_other, at_mapped, mapped_length, map_set, within_of, count_cons}
 use Rattle.ssf_model.proofs.Counts.{counted_is, numbered_is, numbered_told, none_sent}
 use Rattle.run_health.proofs.Delivers.{AllMoved, IsMoved, IsGivenBy, IsGiven, IsMade, IsOnOwn, given_timely, admits_from, Outcomes, outcomes}
 use Rattle.run_health.proofs.Sends.{FromWrite, FromWait, sent_from, sent_count, one_channel_each}

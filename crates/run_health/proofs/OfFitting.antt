@@ -1,18 +1,16 @@
 -- The laws of plans that fit: what writes what, rounds, and cuts that drop nothing.
-use Rattle.std.proofs.Common.{◌≡◌, ◌⊎◌, ℕ, zero, suc, ◌+◌, ◌<◌, ◌≤◌, Bool, true, false, ◌&&◌, nat_eq, List, [], ◌∷◌, ◌++◌, filter, length, refl, sym, ap, ◌∙◌, subst, inl, inr, arith, Some, slice_get, eqb-true, eq-eqb}
-use Rattle.std.specs.List.{All}
+use Rattle.std.proofs.Common.{◌≡◌, ◌⊎◌, ℕ, ◌+◌, ◌≤◌, Bool, true, false, ◌&&◌, nat_eq, List, [], ◌∷◌, filter, length, refl, sym, ap, ◌∙◌, subst, inl, inr, arith, Some, slice_get, eqb-true, eq-eqb}
 use Rattle.event_order.specs.declared.key.Key.{Key}
 use Rattle.event_order.specs.Pending.{Among}
-use Rattle.event_order.specs.Machine.{World, first_events}
+use Rattle.event_order.specs.Machine.{first_events}
 use Rattle.event_order.specs.Run.{Chain, share}
 use Rattle.event_order.specs.Laws.{HasRounds}
 use Rattle.event_order.proofs.Pending.{test_cases}
 use Rattle.event_order.proofs.Local.{share_own}
 use Rattle.event_order.proofs.Rounds.{rounds}
 use Rattle.event_order.proofs.Steps.{event_arises}
-use Rattle.ssf_model.specs.declared.out.Written.TheVariants.{Channel, Timer as TimerWrite}
+use Rattle.ssf_model.specs.declared.out.Written.TheVariants.{Timer as TimerWrite}
 use Rattle.ssf_model.specs.declared.event.Event.{Event}
-use Rattle.ssf_model.specs.declared.entity.Entity.{Entity}
 use Rattle.ssf_model.specs.declared.plan.Mapping.{Mapping}
 use Rattle.ssf_model.specs.declared.plan.Plan.{Plan}
 use Rattle.ssf_model.specs.Reaction.{Reaction, Validity, KeepsValid, LatestTime}
@@ -21,7 +19,7 @@ use Rattle.ssf_model.specs.Channels.{Sent, delivered_to, sent_by}
 use Rattle.ssf_model.specs.Run.{States, writes_at, machine_of, opening, world_after, run_event, run_events, run_entries, IsPending, Fits}
 use Rattle.ssf_model.specs.Scene.{Net, scene_of}
 use Rattle.ssf_model.specs.Truth.{is_on_line, line_events_at, AreFew}
-use Rattle.run_health.specs.Joined.{IsSentAlong, IsWaitBegun, IsFollowing, FollowsEarlier, IsPassedOn, IsAligned, KeepsRounds}
+use Rattle.run_health.specs.Joined.{IsFollowing, FollowsEarlier, IsPassedOn, IsAligned, KeepsRounds}
 use Rattle.ssf_model.proofs.Lists.{each_among}
 use Rattle.ssf_model.proofs.Counts.{numbered_is, writes_rounded}
 use Rattle.run_health.proofs.Delivers.{IsOnOwn}
@@ -157,7 +155,7 @@ module _ {B S P : Type 0} (r : Reaction S P) (valid : Validity S) (carried : P �
         let own : mine e ≡ true = both_hold (on e) (at e) (on_own e) (eq-eqb e.key.time e.key.time refl) in
         let long = chain_share m until kept (opening plan) (IsPassedOn r plan until kept) mine
         (λ p d j t held. let parts = parts_hold (on d) (at d) held in
-            both_hold (on p) (at p) (stays_on (line e.entity) p d j parts.0) (eq-eqb p.key.time e.key.time (t ∙ eqb-true d.key.time e.key.time parts.1)))
+        both_hold (on p) (at p) (stays_on (line e.entity) p d j parts.0) (eq-eqb p.key.time e.key.time (t ∙ eqb-true d.key.time e.key.time parts.1)))
         e.key.round n e h own (passed_rounds n e h) in
         let split = filter_both on at (first_events m until kept (opening plan) n) in
         omega (

@@ -1,25 +1,18 @@
 -- Along the run of a plan that fits its states stay valid, and its entries name entities that there are.
-use Rattle.std.proofs.Common.{◌≡◌, ℕ, zero, suc, ◌+◌, ◌<◌, ◌≤◌, Bool, List, [], ◌∷◌, ◌++◌, map, length, refl, sym, ap, ◌∙◌, inl, inr, arith, Option, Some, None, option_map, slice_get, slice_set, zero-add, suc-add, append-nil, append_assoc}
+use Rattle.std.proofs.Common.{◌≡◌, ℕ, zero, suc, ◌<◌, ◌≤◌, Bool, length, refl, arith, Option, Some, None, option_map, slice_get}
 use Rattle.std.specs.List.{All}
 use Rattle.event_order.specs.declared.key.Key.{Key}
-use Rattle.event_order.specs.Machine.{World, option_list, due, after, event}
-use Rattle.event_order.proofs.Steps.{step_cases}
-use Rattle.event_order.proofs.Continuing.{goes_on}
-use Rattle.ssf_model.specs.declared.wait.Wake.{Wake}
-use Rattle.ssf_model.specs.declared.wait.Kind.{Kind}
+use Rattle.event_order.specs.Machine.{option_list}
 use Rattle.ssf_model.specs.declared.event.Event.{Event}
 use Rattle.ssf_model.specs.declared.event.Entry.{Entry}
-use Rattle.ssf_model.specs.declared.process.Process.{Process}
 use Rattle.ssf_model.specs.declared.entity.Entity.{Entity}
-use Rattle.ssf_model.specs.declared.plan.Mapping.{Mapping}
 use Rattle.ssf_model.specs.declared.plan.Plan.{Plan}
 use Rattle.ssf_model.specs.Reaction.{Reaction, Validity, KeepsValid, LatestTime, Each}
-use Rattle.ssf_model.specs.Deliver.{IsModest, wake_of, reacted, delivered}
-use Rattle.ssf_model.specs.Channels.{delivered_to, entity_after}
+use Rattle.ssf_model.specs.Deliver.{IsModest}
 use Rattle.ssf_model.specs.Entities.{IsValidEntity}
-use Rattle.ssf_model.specs.Run.{States, acts_at, machine_of, opening, world_after, run_event, entry_by, entry_at, entries_from, run_entries, Fits}
+use Rattle.ssf_model.specs.Run.{world_after, run_event, entry_by, entry_at, run_entries, Fits}
 use Rattle.run_health.specs.Healthy.{shape}
-use Rattle.ssf_model.proofs.Lists.{each_append, each_all, at_mapped, mapped_length, map_set, within_of}
+use Rattle.ssf_model.proofs.Lists.{each_append, each_all, mapped_length, within_of}
 use Rattle.run_health.proofs.Along.{healthy_along, all_aligned, placed}
 
 module _ {B S P : Type 0} (r : Reaction S P) (valid : Validity S) (carried : P → Type 0) (law : KeepsValid valid carried r) (modest : IsModest valid carried r)

@@ -5,7 +5,6 @@ use Rattle.event_order.specs.Pending.{Among}
 use Rattle.ssf_model.specs.declared.wait.Kind.TheVariants.{Timer, Message}
 use Rattle.ssf_model.specs.declared.out.Written.TheVariants.{Channel, Timer as TimerWrite}
 use Rattle.ssf_model.specs.declared.event.Event.{Event}
-use Rattle.ssf_model.specs.declared.process.Process.{Process}
 use Rattle.ssf_model.specs.declared.entity.Entity.{Entity}
 use Rattle.ssf_model.specs.declared.plan.Mapping.{Mapping}
 use Rattle.ssf_model.specs.declared.plan.Plan.{Plan}
