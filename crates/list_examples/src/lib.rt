@@ -2,6 +2,8 @@
 //! examples are tests.
 #![tactic(auto)]
 
+#[cfg(test)]
+mod opening_tests;
 pub mod rings;
 #[cfg(test)]
 mod tests;

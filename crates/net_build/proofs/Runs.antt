@@ -10,7 +10,7 @@ use Rattle.ring_model.specs.declared.ring.RingState.{RingState}
 use Rattle.ring_model.specs.declared.ring.RingPayload.{RingPayload}
 use Rattle.ring_model.specs.declared.ring.Hop.{Hop}
 use Rattle.ring_model.specs.Rings.{ring_draft, with_hops}
-use Rattle.plan_opening.proofs.Rings.{ring_entities}
+use Rattle.ring_model.proofs.Sizes.{ring_entities}
 
 pub ring_named : (ring : Ring) (nodes : ℕ) (tokens : List ℕ) (hops : List Hop) (builder : Draft Ring RingState) (plan : Plan Ring RingState RingPayload) (names : List (List ℕ))
     → builder ≡ with_hops (ring_draft ring nodes tokens) hops → plan ≡ planned builder → names ≡ map decimal (range_with_len 0 nodes)

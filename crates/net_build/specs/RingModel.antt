@@ -7,6 +7,7 @@ use Rattle.dml_tree.specs.Attributes.{Attributes}
 use Rattle.dml_tree.specs.TreeView.{attributes}
 use Rattle.net_graph.specs.declared.fault.ShapeFault.TheVariants.{NoModel, Missing, DelayTooLong, TooManyChannels}
 use Rattle.net_graph.specs.Keys.{values_of, lists_of, first_of, number_of_value}
+use Rattle.ssf_model.specs.Deliver.{MostWrites}
 use Rattle.ssf_model.specs.Reaction.{LongestDelay}
 use Rattle.ssf_model.specs.Drafts.{MostChannels, planned}
 use Rattle.ring_model.specs.declared.ring.Ring.{Ring}
@@ -105,4 +106,4 @@ ring_counts_of root = then_read (ring_of root) (λ ring. then_read (build ring) 
 
 -- the first list `ring` has at most 4,194,304 tokens
 abbrev pub HasFewTokens : List Attribute → Type 0
-HasFewTokens root = IfSome (first_of (lists_of (codes "ring") root)) (λ ring. length (values_of (codes "token") (attributes ring)) ≤ 4194304)
+HasFewTokens root = IfSome (first_of (lists_of (codes "ring") root)) (λ ring. length (values_of (codes "token") (attributes ring)) ≤ MostWrites)

@@ -3,8 +3,9 @@ ghost use Rattle.std.specs.Prelude.{◌≡◌, ◌≤◌, ◌<◌, ◌⊎◌, �
 ghost use Rattle.std.specs.List.{All, list_any, range_with_len};
 ghost use Rattle.dml_tree.specs.TreeView.{attributes};
 ghost use Rattle.net_graph.specs.Keys.{values_of, has_net};
-ghost use Rattle.ring_model.specs.Reacting.{IsRing, AnyPayload};
+ghost use Rattle.ssf_model.specs.Deliver.{MostWrites};
 ghost use Rattle.ssf_model.specs.Run.{Fits};
+ghost use Rattle.ring_model.specs.Reacting.{IsRing, AnyPayload};
 ghost use Rattle.net_build.specs.RingModel.{first_number, absent_number, tokens_in, hops_in, hop_of, is_long, build, built_of, ring_of, ring_plan_of, HasFewTokens, ring_counts_of};
 ghost use Rattle.net_build.specs.PlanText.{ring_text_of};
 
@@ -39,7 +40,7 @@ pub fn ring_plan(alloc: Global, tree: &Tree) -> Result<Built<Ring>, ShapeFault>
     requires model { has_net (attributes tree.now) ≡ false }
     requires few { HasFewTokens (attributes tree.now) }
     ensures built { IfOk result (λ built. ring_plan_of (attributes tree.now) ≡ Ok built) }
-    ensures runnable { IfOk result (λ built. Fits IsRing AnyPayload built.plan) }
+    ensures fits { IfOk result (λ built. Fits IsRing AnyPayload built.plan) }
     ensures named { IfOk result (λ built. length built.names.names ≡ length built.plan.entities) }
     ensures cause { IfErr result (λ fault. (fault ≡ ShapeFault.Memory) ⊎ (ring_plan_of (attributes tree.now) ≡ Err fault)) }
 {
@@ -133,7 +134,7 @@ fn ring_keys(alloc: Global, tree: &Tree) -> Result<Keys, ShapeFault>
     ensures nodes { IfOk result (λ keys. keys.nodes ≤ 65536) }
     ensures tokens { IfOk result (λ keys. All (λ t. t < keys.nodes) keys.tokens) }
     ensures hops { IfOk result (λ keys. All (λ h. (h.from < keys.nodes) × (h.to < keys.nodes)) keys.hops) }
-    ensures few { IfOk result (λ keys. HasFewTokens (attributes tree.now) → length keys.tokens ≤ 4194304) }
+    ensures few { IfOk result (λ keys. HasFewTokens (attributes tree.now) → length keys.tokens ≤ MostWrites) }
     ensures cause { IfErr result (λ fault. (fault ≡ ShapeFault.Memory) ⊎ (ring_of (attributes tree.now) ≡ Err fault)) }
 {
     let Some(ring) = first_list(tree, b"ring") else {
@@ -158,10 +159,10 @@ fn build_ring(
 ) -> Result<Built<Ring>, ShapeFault>
     requires nodes { nodes ≤ 65536 }
     requires tokens { All (λ t. t < nodes) tokens.now }
-    requires few { length tokens.now ≤ 4194304 }
+    requires few { length tokens.now ≤ MostWrites }
     requires hops { All (λ h. (h.from < nodes) × (h.to < nodes)) hops.now }
     ensures built { IfOk result (λ built. build (record { nodes = nodes; tokens = tokens.now; hops = hops.now }) ≡ Ok built) }
-    ensures runnable { IfOk result (λ built. Fits IsRing AnyPayload built.plan) }
+    ensures fits { IfOk result (λ built. Fits IsRing AnyPayload built.plan) }
     ensures named { IfOk result (λ built. length built.names.names ≡ length built.plan.entities) }
     ensures cause { IfErr result (λ fault. (fault ≡ ShapeFault.Memory) ⊎ (build (record { nodes = nodes; tokens = tokens.now; hops = hops.now }) ≡ Err fault)) }
 {

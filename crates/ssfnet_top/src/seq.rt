@@ -57,7 +57,7 @@ fn build_ring(alloc: Global, names: &[String], tree: &Tree) -> Result<Built<Ring
     ensures model { IfOk result (λ built. model_of (map string_bytes names.now) tree.now ≡ Ok built) }
     ensures cause { IfErr result (λ r. (r ≡ Refusal.Memory) ⊎ (model_of (map string_bytes names.now) tree.now ≡ Err r)) }
     ensures refusal { IfErr result (λ r. IsOfModel (map string_bytes names.now) r) }
-    ensures runnable { IfOk result (λ built. Fits IsRing AnyPayload built.plan) }
+    ensures fits { IfOk result (λ built. Fits IsRing AnyPayload built.plan) }
     ensures named { IfOk result (λ built. length built.names.names ≡ length built.plan.entities) }
     ensures before { IfOk result (λ built. built.plan.before ≡ 0) }
 {

@@ -17,8 +17,8 @@ returns-clause-built c =
     ∙ ap Ok (same_built c.args.nodes c.args.tokens.now c.args.hops.now c.in-Ok.builder c.in_ok-plan.plan c.in_ok-names.names.names c.in_ok-nets.nets
     c.in-Ok.ensures.made.1 c.in_ok-plan.ensures.plan c.in_ok-names.ensures c.in_ok-nets.ensures)
 
-pub returns-clause-runnable : goal.returns-clause-runnable
-returns-clause-runnable c = c.in_ok-plan.ensures.fits
+pub returns-clause-fits : goal.returns-clause-fits
+returns-clause-fits c = c.in_ok-plan.ensures.fits
 
 pub returns-clause-named : goal.returns-clause-named
 returns-clause-named c =
