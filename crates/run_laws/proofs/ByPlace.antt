@@ -1,5 +1,5 @@
 -- The writes of a run on one channel have its numbers in a row, whether the cut keeps them or not.
-use Rattle.std.proofs.Common.{ℕ, zero, suc, ◌≡◌, ◌⊎◌, ◌+◌, ◌<◌, ◌≤◌, ◌∙◌, sym, ap, subst, refl, inl, inr, Bool, true, false, nat_eq, List, [], ◌∷◌, ◌++◌, length, Option, Some, None, slice_get, arith, zero-add, suc-add, append-nil, length-append, eqb-true, eq-eqb}
+use Rattle.std.proofs.Common.{ℕ, zero, suc, ◌≡◌, ◌⊎◌, ◌+◌, ◌<◌, ◌∙◌, sym, ap, subst, refl, inl, inr, Bool, true, false, nat_eq, List, [], ◌∷◌, ◌++◌, length, Option, Some, None, slice_get, arith, zero-add, suc-add, append-nil, length-append, eqb-true, eq-eqb}
 use Rattle.std.specs.List.{filter, flat_map}
 use Rattle.std.proofs.lemmas.List.Elements.{filter-append}
 use Rattle.std.proofs.lemmas.Bool.Decides.{nat_tests}
@@ -17,7 +17,6 @@ use Rattle.ssf_model.specs.Run.{States, acts_at, writes_at, machine_of, counts_o
 use Rattle.ssf_model.specs.Scene.{Net, Scene, scene_of, world_at, event_at, time_of, channel_of}
 use Rattle.ssf_model.specs.Truth.{writes_within, writes_on, has_channel, IsWrite, IsRunWrite, IsStretch, IsPromise, IsTrueParcel}
 use Rattle.ssf_model.proofs.Lists.{different, place_of, place_more, place_among, among_place}
-use Rattle.ssf_model.proofs.Counts.{raised_same}
 
 -- ---- writes of any run
 

@@ -1,8 +1,7 @@
 -- What stays along a run, what its entries name, and how it goes on.
-use Rattle.std.proofs.Common.{◌≡◌, ℕ, zero, suc, ◌+◌, ◌<◌, ◌≤◌, Bool, List, [], ◌∷◌, ◌++◌, map, length, refl, sym, ap, ◌∙◌, inl, inr, arith, Option, Some, None, option_map, slice_get, slice_set, zero-add, suc-add, append-nil, append_assoc}
-use Rattle.std.specs.List.{All}
+use Rattle.std.proofs.Common.{◌≡◌, ℕ, zero, suc, ◌+◌, Bool, List, [], ◌∷◌, ◌++◌, map, refl, sym, ap, ◌∙◌, inl, inr, Option, Some, None, option_map, slice_get, zero-add, suc-add, append-nil, append_assoc}
 use Rattle.event_order.specs.declared.key.Key.{Key}
-use Rattle.event_order.specs.Machine.{World, option_list, due, after, event}
+use Rattle.event_order.specs.Machine.{World, option_list, due, after}
 use Rattle.event_order.proofs.Steps.{step_cases}
 use Rattle.event_order.proofs.Continuing.{goes_on}
 use Rattle.ssf_model.specs.declared.wait.Wake.{Wake}
@@ -13,12 +12,11 @@ use Rattle.ssf_model.specs.declared.process.Process.{Process}
 use Rattle.ssf_model.specs.declared.entity.Entity.{Entity}
 use Rattle.ssf_model.specs.declared.plan.Mapping.{Mapping}
 use Rattle.ssf_model.specs.declared.plan.Plan.{Plan}
-use Rattle.ssf_model.specs.Reaction.{Reaction, Validity, KeepsValid, LatestTime, Each}
-use Rattle.ssf_model.specs.Deliver.{IsModest, wake_of, reacted, delivered}
+use Rattle.ssf_model.specs.Reaction.{Reaction}
+use Rattle.ssf_model.specs.Deliver.{wake_of, reacted, delivered}
 use Rattle.ssf_model.specs.Channels.{delivered_to, entity_after}
-use Rattle.ssf_model.specs.Entities.{IsValidEntity}
-use Rattle.ssf_model.specs.Run.{States, acts_at, machine_of, opening, world_after, run_event, entry_by, entry_at, entries_from, run_entries, Fits}
-use Rattle.ssf_model.proofs.Lists.{each_append, each_all, at_mapped, mapped_length, map_set, within_of}
+use Rattle.ssf_model.specs.Run.{States, acts_at, machine_of, opening, world_after, entry_at, entries_from}
+use Rattle.ssf_model.proofs.Lists.{at_mapped, map_set}
 
 -- ---- what no action changes
 

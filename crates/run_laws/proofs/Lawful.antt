@@ -1,15 +1,15 @@
 -- The machine of a plan meets what the laws of machines ask.
-use Rattle.std.proofs.Common.{◌≡◌, ◌⊎◌, ℕ, suc, ◌+◌, ◌<◌, ◌≤◌, true, false, cond, nat_eq, List, [], ◌∷◌, refl, sym, ap, ◌∙◌, subst, inl, inr, arith, Option, Some, None, slice_get, eq-eqb}
+use Rattle.std.proofs.Common.{◌≡◌, ℕ, ◌<◌, ◌≤◌, List, [], ◌∷◌, sym, ap, ◌∙◌, subst, inl, inr, arith, Option, Some, None, slice_get}
 use Rattle.event_order.specs.declared.key.Key.{Key}
-use Rattle.event_order.specs.Order.{IsBefore, child_of}
+use Rattle.event_order.specs.Order.{IsBefore}
 use Rattle.event_order.specs.Pending.{Among, IsApart}
-use Rattle.event_order.proofs.Order.{child_after, child_cases}
+use Rattle.event_order.proofs.Order.{child_after}
 use Rattle.event_order.specs.Laws.{IsLawful, IsOpening, HasRounds}
 use Rattle.ssf_model.specs.declared.event.Event.{Event}
 use Rattle.ssf_model.specs.declared.entity.Entity.{Entity}
 use Rattle.ssf_model.specs.declared.plan.Mapping.{Mapping}
 use Rattle.ssf_model.specs.declared.plan.Plan.{Plan}
-use Rattle.ssf_model.specs.Reaction.{Reaction, Each}
+use Rattle.ssf_model.specs.Reaction.{Reaction}
 use Rattle.ssf_model.specs.Channels.{Sent, sent_by, numbered, raised, counted}
 use Rattle.ssf_model.specs.Run.{States, acts_at, writes_at, machine_of, opening, counts_of}
 use Rattle.run_laws.specs.Openings.{OpensInOrder}

@@ -1,20 +1,18 @@
 -- The laws of machines, for the machine of a plan.
-use Rattle.std.proofs.Common.{◌≡◌, ◌⊎◌, ℕ, zero, suc, ◌+◌, ◌<◌, ◌≤◌, Bool, List, ◌++◌, refl, ap, ◌∙◌, Some, None, option_map, arith}
+use Rattle.std.proofs.Common.{◌≡◌, ◌⊎◌, ℕ, ◌+◌, ◌<◌, ◌≤◌, Bool, ap, Some, None, arith}
 use Rattle.event_order.specs.declared.key.Key.{Key}
 use Rattle.event_order.specs.Order.{IsBefore}
 use Rattle.event_order.specs.Pending.{Among, IsRising}
-use Rattle.event_order.specs.Machine.{World, after, event, due, option_list, within, all_kept}
+use Rattle.event_order.specs.Machine.{World, due, within, all_kept}
 use Rattle.event_order.specs.Run.{WrittenBefore, ExecutedWithin, Arises, Chain}
 use Rattle.event_order.proofs.Steps.{event_arises, ended_later, ended_after}
 use Rattle.event_order.proofs.Keys.{keys_rise, pending_rises, one_key, pending_executed}
 use Rattle.event_order.proofs.Rounds.{rounds, first_events_same, cut_same}
 use Rattle.event_order.proofs.Finite.{finite}
 use Rattle.ssf_model.specs.declared.event.Event.{Event}
-use Rattle.ssf_model.specs.declared.event.Entry.{Entry}
-use Rattle.ssf_model.specs.declared.plan.Mapping.{Mapping}
 use Rattle.ssf_model.specs.declared.plan.Plan.{Plan}
 use Rattle.ssf_model.specs.Reaction.{Reaction}
-use Rattle.ssf_model.specs.Run.{States, machine_of, opening, run_event, run_events, entry_at, entries_from, run_entries, world_after}
+use Rattle.ssf_model.specs.Run.{States, machine_of, opening, run_event, run_events, run_entries, world_after}
 use Rattle.ssf_model.proofs.Entries.{same_entries}
 use Rattle.run_laws.specs.Openings.{OpensInOrder}
 use Rattle.run_laws.proofs.Lawful.{known, fine, lawful, has_rounds, opened, rounds_opened}

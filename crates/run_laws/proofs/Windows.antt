@@ -1,5 +1,5 @@
 -- The windows of a run that ends are those that one computes.
-use Rattle.std.proofs.Common.{◌≡◌, ◌⊎◌, ℕ, zero, suc, ◌+◌, ◌<◌, ◌≤◌, true, false, nat_le, min, refl, sym, ap, ◌∙◌, subst, inl, inr, arith, Option, Some, None, option_map}
+use Rattle.std.proofs.Common.{◌≡◌, ℕ, zero, suc, ◌<◌, ◌≤◌, true, false, nat_le, min, refl, sym, ap, ◌∙◌, subst, inl, inr, arith, Option, Some, None, option_map}
 use Rattle.std.proofs.lemmas.Grind.{common_steps}
 use Rattle.event_order.proofs.Pending.{test_cases}
 use Rattle.event_order.proofs.Steps.{lt_or_ge, lt_or_same, before_end}

@@ -167,7 +167,7 @@ pub fn promises_bound_numbers<B: Behaviour>()
         → d.key.number < counts_of plan.counts c + n }
     ensures told { (b : B) (plan : Plan B B.State B.Payload) (until : ℕ) (kept : KeyValue → Bool) (line : ℕ → ℕ) (net : Net) (c bound n : ℕ)
         → ((d : Event B.Payload) → IsRunWrite (scene_of (B.reaction b) plan until kept line net) d → d.key.channel ≡ c → d.key.time < bound
-            → d.key.number < counts_of plan.counts c + n)
+        → d.key.number < counts_of plan.counts c + n)
         → IsPromise (scene_of (B.reaction b) plan until kept line net) c bound n }
 {}
 
@@ -188,7 +188,7 @@ pub fn stretches_by_numbers<B: Behaviour>()
     ensures told { (b : B) (plan : Plan B B.State B.Payload) (until : ℕ) (kept : KeyValue → Bool) (line : ℕ → ℕ) (net : Net) (c first end : ℕ) (ds : List (Event B.Payload))
         → end ≡ first + length ds
         → ((j : ℕ) (d : Event B.Payload) → slice_get ds j ≡ Some d
-            → IsRunWrite (scene_of (B.reaction b) plan until kept line net) d × (d.key.channel ≡ c) × (d.key.number ≡ counts_of plan.counts c + (first + j)))
+        → IsRunWrite (scene_of (B.reaction b) plan until kept line net) d × (d.key.channel ≡ c) × (d.key.number ≡ counts_of plan.counts c + (first + j)))
         → IsStretch (scene_of (B.reaction b) plan until kept line net) c first ds end }
 {}
 

@@ -1,5 +1,4 @@
 use Rattle.event_order.proofs.Continuing.{longer_event, longer_world}
-use Rattle.std.proofs.Common.{add-one}
 use Rattle.ssf_model.specs.Run.{machine_of, opening}
 use Rattle.run_laws.proofs.laws.longer_runs_begin_alike.Goals as goal
 
