@@ -2,21 +2,12 @@
 use Rattle.std.specs.Prelude.{◌≡◌, ℕ, ◌+◌, ◌*◌, ◌≤◌, ◌^◌, Bool, true, false, ◌||◌, Option, Some, None, List, [], ◌∷◌, ◌++◌, nat_eq, nat_lt, if◌then◌else◌}
 use Rattle.sim_base.specs.declared.records.TcpConfig.{TcpConfig}
 use Rattle.sim_base.specs.SegmentFields.{SegmentFields}
+use Rattle.sim_base.specs.Traffic.{IsTcp}
 use Rattle.tcp_rules.specs.declared.records.Act.{Act}
 use Rattle.tcp_rules.specs.declared.records.Act.TheVariants.{Entered, Delivered, Send}
 use Rattle.tcp_rules.specs.declared.records.Range.{Range}
 
--- the settings of TCP on a host
-pub record IsTcp (frequency : ℕ) (tcp : TcpConfig) : Type 0 where
-  pub iss : tcp.iss ≤ 2 ^ 30
-  pub mss : (1 ≤ tcp.mss) × (tcp.mss ≤ 65495)
-  pub receive : (1 ≤ tcp.receive) × (tcp.receive ≤ 65535)
-  pub send : (1 ≤ tcp.send) × (tcp.send ≤ 65535)
-  pub tries : tcp.tries ≤ 100
-  pub msl : tcp.msl ≤ 10 ^ 18
-  pub frequency_is : tcp.frequency ≡ frequency
-
--- the same, with a clock of 1 to 10^12 ticks a second
+-- the settings of TCP on a host with a clock of 1 to 10^12 ticks a second
 pub record IsTimedTcp (tcp : TcpConfig) : Type 0 where
   pub settings : IsTcp tcp.frequency tcp
   pub some_frequency : 1 ≤ tcp.frequency
