@@ -117,7 +117,7 @@ module _ {T : Type 0} (key : T → Key) where
     sink_below c z l e =
         let top : above child ≡ at = omega arith in
         moved xs ys (above child) c child c (λ d. ap (λ k. slice_index_or ys k d) top ∙ s.0 d) (λ d. s.2 c d (omega arith) (omega arith))
-            (there xs child (above c) c (sym e) (but.0 c (omega arith) (omega arith) (omega arith) (omega arith)))
+        (there xs child (above c) c (sym e) (but.0 c (omega arith) (omega arith) (omega arith) (omega arith)))
 
     pub sink_steps : IsHeapBut key ys child
     sink_steps = (sink_but, sink_below)

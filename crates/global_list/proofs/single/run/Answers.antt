@@ -9,8 +9,8 @@ execute_next-requires-after_bounds g c κs within =
     let plan = c.args.plan in
     let now = c.loop-executed.invariant in
     rw now.1 (may_go (g.B.Behaviour.reaction plan.behaviour) (g.B.Behaviour.valid plan.behaviour) (g.B.Behaviour.carried plan.behaviour) plan c.args.until c.loop-executed._executed
-        c.requires.plan c.requires.until (omega arith) c.loop-executed.list.fan_out c.loop-executed.list.entities.items c.loop-executed.list.agenda.counts.items
-        c.loop-executed.list.agenda.pending c.loop-executed.entries.items now.2 now.3 now.0)
+    c.requires.plan c.requires.until (omega arith) c.loop-executed.list.fan_out c.loop-executed.list.entities.items c.loop-executed.list.agenda.counts.items
+    c.loop-executed.list.agenda.pending c.loop-executed.entries.items now.2 now.3 now.0)
 
 pub loop-executed-preserved : goal.loop-executed-preserved
 loop-executed-preserved g c =
