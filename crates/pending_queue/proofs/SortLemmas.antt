@@ -103,8 +103,8 @@ module _ {T : Type 0} where
           | inr a ↦ elim (g y (inl refl)) [ inl e ↦ sym e | inr b ↦ absurd (before_asym (key y) (key x) (s.0 x a) (r.0 y b)) ]
         ] in
         let rest : xs ≡ ys = rising_same xs ys r.1 s.1
-            (λ z a. elim (f z (inr a)) [ inl e ↦ absurd (before_irrefl (key x) (subst (λ w. IsBefore (key x) (key w)) (e ∙ sym head) (r.0 z a))) | inr b ↦ b ])
-            (λ z a. elim (g z (inr a)) [ inl e ↦ absurd (before_irrefl (key y) (subst (λ w. IsBefore (key y) (key w)) (e ∙ head) (s.0 z a))) | inr b ↦ b ]) in
+        (λ z a. elim (f z (inr a)) [ inl e ↦ absurd (before_irrefl (key x) (subst (λ w. IsBefore (key x) (key w)) (e ∙ sym head) (r.0 z a))) | inr b ↦ b ])
+        (λ z a. elim (g z (inr a)) [ inl e ↦ absurd (before_irrefl (key y) (subst (λ w. IsBefore (key y) (key w)) (e ∙ head) (s.0 z a))) | inr b ↦ b ]) in
         λ i. head i ∷ rest i
 
     pub sorted_rises : (xs : List T) → IsApart key xs → IsRising key (sorted key xs)
