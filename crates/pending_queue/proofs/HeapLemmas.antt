@@ -1,5 +1,5 @@
 -- Items that go up and down in a heap.
-use Rattle.std.proofs.Common.{◌≡◌, ℕ, zero, suc, ◌+◌, ◌-◌, ◌*◌, ◌/◌, ◌<◌, ◌≤◌, ◌≢◌, Bool, true, false, List, length, Some, refl, sym, ap, ◌∙◌, inl, inr, arith}
+use Rattle.std.proofs.Common.{◌≡◌, ℕ, zero, suc, ◌+◌, ◌*◌, ◌<◌, ◌≤◌, ◌≢◌, Bool, true, false, List, length, Some, refl, sym, ap, ◌∙◌, inl, inr, arith}
 use Rattle.std.proofs.lemmas.Bool.{cases_eq}
 use Rattle.std.proofs.lemmas.Option.{slice_get-get_or, get_or_from_slice_get}
 use Rattle.std.specs.List.{slice_index_or, SwappedAt, SameBelow}
@@ -34,6 +34,20 @@ module _ {T : Type 0} (key : T → Key) where
   least_more xs first child least next h k all c a b = elim (cases_eq c child) [
     | inl e ↦ in_order_trans xs next child c k (in_order_same xs child c e)
     | inr n ↦ in_order_trans xs next least c h (all c a (omega arith))
+  ]
+
+  -- of two pairs of places, one that is in order with the lesser of both
+  pub least_of_pairs : (xs : List T) (first left right least : ℕ) → AreInOrder key xs left first → AreInOrder key xs left (first + 1) → AreInOrder key xs right (first + 2) → AreInOrder key xs right (first + 3) →
+      AreInOrder key xs least left → AreInOrder key xs least right → (c : ℕ) → first ≤ c → c < first + 4 → AreInOrder key xs least c
+  least_of_pairs xs first left right least a b d e l r c from to = elim (cases_eq c first) [
+    | inl s ↦ in_order_trans xs least left c l (in_order_trans xs left first c a (in_order_same xs first c s))
+    | inr n ↦ elim (cases_eq c (first + 1)) [
+      | inl s ↦ in_order_trans xs least left c l (in_order_trans xs left (first + 1) c b (in_order_same xs (first + 1) c s))
+      | inr m ↦ elim (cases_eq c (first + 2)) [
+        | inl s ↦ in_order_trans xs least right c r (in_order_trans xs right (first + 2) c d (in_order_same xs (first + 2) c s))
+        | inr o ↦ in_order_trans xs least right c r (in_order_trans xs right (first + 3) c e (in_order_same xs (first + 3) c (omega arith)))
+      ]
+    ]
   ]
 
   -- the key of an item that was read, at any default

@@ -1,5 +1,5 @@
 -- What a queue's items say of its model.
-use Rattle.std.proofs.Common.{◌≡◌, ℕ, ◌+◌, ◌-◌, ◌<◌, ◌≤◌, ◌↔◌, true, false, Bor, List, [], ◌∷◌, ◌++◌, length, Option, Some, None, IsNone, IfSome, take, drop, refl, sym, ap, ◌∙◌, subst, arith}
+use Rattle.std.proofs.Common.{◌≡◌, ℕ, ◌<◌, ◌↔◌, true, false, Bor, List, [], ◌∷◌, ◌++◌, length, Option, Some, None, IsNone, IfSome, take, drop, refl, sym, ap, ◌∙◌, subst, arith}
 use Rattle.std.proofs.lemmas.List.{append-nil, take_all, drop_all}
 use Rattle.std.specs.List.{slice_get, slice_index_or, swap_remove}
 use Rattle.std.specs.Option.{option_copied}
@@ -10,7 +10,7 @@ use Rattle.event_order.specs.Pending.{put, Among, IsRising, IsApart}
 use Rattle.pending_queue.specs.Heap.{IsHeap}
 use Rattle.pending_queue.specs.Queue.{Queue, queue, sorted, IsQueue}
 use Rattle.pending_queue.proofs.HeapLemmas.{top_first}
-use Rattle.pending_queue.proofs.SortLemmas.{among_permuted, apart_permuted, in_sorted, sorted_rises, sorted_more, sorted_less, length_sorted}
+use Rattle.pending_queue.proofs.SortLemmas.{apart_permuted, in_sorted, sorted_rises, sorted_more, sorted_less, length_sorted}
 
 module _ {T : Type 0} where
   -- the items of a vector whose slice was lent and came back

@@ -1,5 +1,5 @@
 -- A heap in one list: below the item at i stand those at 4 * i + 1 to 4 * i + 4. No public clause cites this file.
-use Rattle.std.specs.Prelude.{◌≡◌, ℕ, ◌-◌, ◌/◌, ◌<◌, ◌≤◌, ◌≢◌, Bool, false, List, length, slice_index_or}
+use Rattle.std.specs.Prelude.{◌≡◌, ℕ, ◌-◌, ◌/◌, ◌<◌, ◌≢◌, false, List, length, slice_index_or}
 use Rattle.event_order.specs.declared.key.Key.{Key}
 use Rattle.event_order.specs.Order.{comes_before}
 

@@ -38,14 +38,25 @@ fn lesser<T: Keyed>(items: &[T], a: usize, b: usize) -> usize
     }
 }
 
-/// The place of the least item from `first` on, among as many as stand below one.
+/// The place of the least of the four items from `first` on.
+fn least_of_four<T: Keyed>(items: &[T], first: usize) -> usize
+    requires { first + 3 < length items.now }
+    ensures place { (first ≤ result) × (result < length items.now) × (result < first + 4) }
+    ensures least { (c : ℕ) → first ≤ c → c < first + 4 → AreInOrder T.key_of items.now result c }
+{
+    let left = lesser(items, first, first + 1);
+    let right = lesser(items, first + 2, first + 3);
+    lesser(items, left, right)
+}
+
+/// The place of the least of all items from `first` on.
 fn least_from<T: Keyed>(items: &[T], first: usize) -> usize
     requires { first < length items.now }
-    ensures place { (first ≤ result) × (result < length items.now) × (result < first + 4) }
-    ensures least { (c : ℕ) → first ≤ c → c < first + 4 → c < length items.now → AreInOrder T.key_of items.now result c }
+    ensures place { (first ≤ result) × (result < length items.now) }
+    ensures least { (c : ℕ) → first ≤ c → c < length items.now → AreInOrder T.key_of items.now result c }
 {
     let mut least = first;
-    for child in first + 1..items.len().min(first.saturating_add(CHILDREN)) {
+    for child in first + 1..items.len() {
         least = lesser(items, least, child);
     }
     least
@@ -79,7 +90,12 @@ fn sink<T: Keyed>(items: &mut [T]) -> usize
 {
     let last = items.len() - 1;
     let mut at = 0;
-    while at < last.div_ceil(CHILDREN) {
+    while at < last / CHILDREN {
+        let child = least_of_four(items, CHILDREN * at + 1);
+        items.swap(at, child);
+        at = child;
+    }
+    if at == last / CHILDREN && CHILDREN * at < last {
         let child = least_from(items, CHILDREN * at + 1);
         items.swap(at, child);
         at = child;

@@ -1,5 +1,3 @@
-use Rattle.std.proofs.Common.{ap, subst}
-use Rattle.event_order.specs.Pending.{IsRising}
 use Rattle.pending_queue.proofs.QueueLemmas.{rises}
 use Rattle.pending_queue.proofs.pending.Pending.keys_rise.Goals as goal
 

@@ -1,4 +1,4 @@
-use Rattle.std.proofs.Common.{◌≡◌, ap, sym, ◌∙◌}
+use Rattle.std.proofs.Common.{ap, sym, ◌∙◌}
 use Rattle.std.specs.List.{slice_get}
 use Rattle.pending_queue.specs.Queue.{Queue}
 use Rattle.pending_queue.proofs.QueueLemmas.{rises, first_none, first_some, first_sorted}
