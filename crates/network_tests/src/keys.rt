@@ -95,13 +95,17 @@ fn the_first_of_a_key_counts(rt: HostRuntime) -> Result<(), Fail> {
     let Some(value) = first_value(&tree, b"a") else {
         return Err(Fail::from("no value"));
     };
-    let number = number_in(rt.alloc(), b"a", value, 1, 2);
-    assert!(rt; matches!(&number, Ok(1)));
+    assert!(rt; matches!(number_in(rt.alloc(), b"a", value, 1, 2), Ok(1)));
     let Some(list) = first_list(&tree, b"b") else {
         return Err(Fail::from("no list"));
     };
     assert!(rt; first_value(list, b"c").is_some());
     assert!(rt; first_value(list, b"a").is_none());
+    Ok(())
+}
+
+#[test]
+fn faults_name_their_key(rt: HostRuntime) -> Result<(), Fail> {
     let number = fault_text(rt.alloc(), bad_number(rt.alloc(), b"k"))?;
     assert_eq!(rt; number.as_str(), "BadNumber k");
     let lacking = fault_text(rt.alloc(), missing(rt.alloc(), b"k"))?;
