@@ -30,8 +30,3 @@ pub use number::read_number;
 pub use refusal::Refusal;
 pub use top::offline;
 pub use words::{Request, WordsFault, read_words};
-
-#[cfg(test)]
-mod net_tests;
-#[cfg(test)]
-mod tests;

@@ -1,7 +1,7 @@
 //! The commands `check` and `plan` on worked models, and on models at their limits.
-use crate::offline;
-use crate::tests::{Case, FIRST, TWO, check_case, check_text, library_of, split_words};
+use crate::commands::{Case, FIRST, TWO, check_case, check_text, library_of, split_words};
 use sim_base::MemorySink;
+use ssfnet_top::offline;
 use std::alloc::Global;
 use std::process::Abort;
 use std::test::Fail;

@@ -1,6 +1,6 @@
 //! The command on worked examples, over files and sinks in memory.
-use crate::offline;
 use sim_base::{Library, MemoryLibrary, MemorySink, Sink, Text};
+use ssfnet_top::offline;
 use std::alloc::Global;
 use std::process::Abort;
 use std::test::Fail;
