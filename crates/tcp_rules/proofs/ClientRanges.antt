@@ -1,23 +1,23 @@
 -- Each rule keeps a client in range, and sends few segments, all in range.
-use Rattle.std.proofs.Common.{◌≡◌, ◌⊎◌, ℕ, zero, suc, ◌+◌, ◌-◌, ◌*◌, ◌/◌, ◌%◌, ◌<◌, ◌≤◌, ◌^◌, Bool, true, false, ◌&&◌, ◌||◌, not, Option, Some, None, is_some, List, [], ◌∷◌, ◌++◌, length, max, min, nat_eq, nat_lt, nat_le, refl, sym, subst, ap, ◌∙◌, inl, inr, arith, length-append, if◌then◌else◌}
+use Rattle.std.proofs.Common.{◌≡◌, ◌⊎◌, ℕ, zero, suc, ◌+◌, ◌-◌, ◌*◌, ◌/◌, ◌<◌, ◌≤◌, ◌^◌, true, ◌&&◌, ◌||◌, Option, Some, None, is_some, List, [], ◌∷◌, ◌++◌, length, max, min, nat_eq, nat_lt, nat_le, refl, sym, subst, ap, inl, inr, arith, length-append, if◌then◌else◌}
 use Rattle.std.specs.Option.{ForSome}
 use Rattle.std.proofs.Math.Nat.{mul-le-mul, div-lt_iff_lt-mul}
 use Rattle.std.proofs.lemmas.Bool.{eqb-true}
 use Rattle.std.proofs.lemmas.Bool.Decides.{nat_tests}
 use Rattle.sim_base.specs.declared.records.TcpConfig.{TcpConfig}
 use Rattle.sim_base.specs.declared.records.TcpState.{TcpState}
-use Rattle.sim_base.specs.declared.records.TcpState.TheVariants.{SynSent, SynReceived, Established, FinWait1, FinWait2, TimeWait, LastAck, Closed}
+use Rattle.sim_base.specs.declared.records.TcpState.TheVariants.{SynSent, FinWait2, TimeWait, Closed}
 use Rattle.sim_base.specs.SegmentFields.{SegmentFields, IsSegment}
-use Rattle.tcp_clock.specs.Retransmission.{Timeout, IsTimeout, first_timeout, backed_off}
+use Rattle.tcp_clock.specs.Retransmission.{Timeout, IsTimeout}
 use Rattle.tcp_clock.specs.Congestion.{Window, IsWindow, first_window, grown, third_duplicate, timed_out, timed_out_again}
-use Rattle.tcp_clock.proofs.Ranges.{first_timeout_ranged, sampled_ranged, backed_off_ranged, first_window_ranged, grown_ranged, third_duplicate_ranged, timed_out_ranged, timed_out_again_ranged}
+use Rattle.tcp_clock.proofs.Ranges.{first_timeout_ranged, sampled_ranged, backed_off_ranged, grown_ranged, third_duplicate_ranged, timed_out_ranged, timed_out_again_ranged}
 use Rattle.tcp_rules.specs.declared.records.Act.{Act}
-use Rattle.tcp_rules.specs.declared.records.Act.TheVariants.{Entered, Delivered, Send}
+use Rattle.tcp_rules.specs.declared.records.Act.TheVariants.{Send}
 use Rattle.tcp_rules.specs.declared.records.Timing.{Timing}
-use Rattle.tcp_rules.specs.Segments.{IsTimedTcp, own_window, Turn, quiet, before, following, span, sent_of, is_ack_of, syn_segment, Each}
-use Rattle.tcp_rules.specs.Clients.{ClientFields, client_ack, client_fin, client_data, first_segment, measured, is_timed_below, advanced, with_deadline, opened, connected, allowed, edge, data_stop, data_count, data_sent, fin_acts, fin_sent, is_established, sent, synchronized, at_syn_ack, acknowledged, fin_acknowledged, at_new_ack, is_duplicate, at_duplicate, at_ack, at_any_ack, hears, heard, finished, at_last_fin, at_fin, at_plain, at_opening, at_later, client_at, client_segment, client_closed, window_after_timeout, retransmitted, at_client_timeout, client_timeout_at, client_timeout}
+use Rattle.tcp_rules.specs.Segments.{IsTimedTcp, own_window, Turn, quiet, following, span, sent_of, is_ack_of, syn_segment, Each}
+use Rattle.tcp_rules.specs.Clients.{ClientFields, client_ack, client_fin, client_data, first_segment, measured, is_timed_below, advanced, with_deadline, opened, connected, allowed, edge, data_stop, data_count, data_sent, fin_sent, is_established, sent, synchronized, at_syn_ack, acknowledged, at_new_ack, is_duplicate, at_duplicate, at_ack, at_any_ack, hears, heard, finished, at_last_fin, at_fin, at_plain, at_opening, at_later, client_at, client_segment, client_closed, window_after_timeout, retransmitted, at_client_timeout, client_timeout_at, client_timeout}
 use Rattle.tcp_rules.specs.Limits.{IsClientEnd}
-use Rattle.tcp_rules.proofs.Cases.{if_case, both_left, both_right, each_append, sent_of-append, each_sent}
+use Rattle.tcp_rules.proofs.Cases.{if_case, both_left, both_right, sent_of-append, each_sent}
 use Rattle.tcp_rules.proofs.Holes.{either_is}
 
 -- Segments.

@@ -1,18 +1,17 @@
 -- Each rule keeps a server in range, and sends at most one segment, which is in range.
-use Rattle.std.proofs.Common.{◌≡◌, ◌⊎◌, ℕ, zero, suc, ◌+◌, ◌-◌, ◌<◌, ◌≤◌, ◌^◌, Bool, true, false, ◌&&◌, Option, Some, None, List, [], ◌∷◌, ◌++◌, length, max, nat_eq, nat_lt, nat_le, refl, sym, ap, arith, if◌then◌else◌}
+use Rattle.std.proofs.Common.{◌≡◌, ℕ, zero, suc, ◌+◌, ◌-◌, ◌<◌, ◌≤◌, ◌^◌, ◌&&◌, Option, Some, [], ◌∷◌, length, nat_lt, arith}
 use Rattle.std.specs.Option.{ForSome}
 use Rattle.std.proofs.lemmas.Bool.Decides.{nat_tests}
 use Rattle.sim_base.specs.declared.records.TcpConfig.{TcpConfig}
 use Rattle.sim_base.specs.declared.records.TcpState.{TcpState}
-use Rattle.sim_base.specs.declared.records.TcpState.TheVariants.{SynSent, SynReceived, Established, FinWait1, FinWait2, TimeWait, LastAck, Closed}
+use Rattle.sim_base.specs.declared.records.TcpState.TheVariants.{SynReceived, Established, LastAck}
 use Rattle.sim_base.specs.SegmentFields.{SegmentFields, IsSegment}
 use Rattle.tcp_clock.proofs.Ranges.{first_timeout_ranged, backed_off_ranged}
-use Rattle.tcp_rules.specs.declared.records.Act.{Act}
-use Rattle.tcp_rules.specs.declared.records.Act.TheVariants.{Entered, Delivered, Send}
-use Rattle.tcp_rules.specs.Segments.{IsTimedTcp, Turn, quiet, before, following, carries, data_of, is_ack_of, sent_of, Each}
-use Rattle.tcp_rules.specs.Servers.{ServerFields, server_syn_ack, server_ack, server_fin, furthest, added, hole, beyond, listened, accepted, fits, kept_with, fin_with, keeping, moved, told, finishing, at_end, at_kept, at_data, established, opening, at_start, server_closed, at_last, server_at, server_segment, server_last, waiting, server_timeout}
+use Rattle.tcp_rules.specs.declared.records.Act.TheVariants.{Send}
+use Rattle.tcp_rules.specs.Segments.{IsTimedTcp, Turn, quiet, following, carries, data_of, is_ack_of, sent_of, Each}
+use Rattle.tcp_rules.specs.Servers.{ServerFields, server_syn_ack, server_ack, server_fin, furthest, hole, listened, accepted, fits, kept_with, fin_with, keeping, moved, told, finishing, at_end, at_kept, at_data, established, opening, at_start, server_closed, at_last, server_at, server_segment, server_last, server_timeout}
 use Rattle.tcp_rules.specs.Limits.{IsServerEnd}
-use Rattle.tcp_rules.proofs.Cases.{if_case, both_left, both_right}
+use Rattle.tcp_rules.proofs.Cases.{if_case}
 use Rattle.tcp_rules.proofs.Holes.{hole_low, hole_high, furthest_added, furthest_beyond}
 use Rattle.tcp_rules.proofs.Receiving.{ack_is}
 use Rattle.tcp_rules.proofs.ClientRanges.{own_most, ack_some}
