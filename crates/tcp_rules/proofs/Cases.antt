@@ -1,5 +1,5 @@
 -- Cases of tests, and lists of acts and segments.
-use Rattle.std.proofs.Common.{◌≡◌, ◌⊎◌, ℕ, ◌≤◌, Bool, true, false, ◌&&◌, Option, Some, None, List, [], ◌∷◌, ◌++◌, refl, ap, subst, sym, inl, inr, if◌then◌else◌}
+use Rattle.std.proofs.Common.{◌≡◌, Bool, true, false, ◌&&◌, List, [], ◌∷◌, ◌++◌, refl, ap, subst, sym, if◌then◌else◌}
 use Rattle.sim_base.specs.SegmentFields.{SegmentFields}
 use Rattle.tcp_rules.specs.declared.records.Act.{Act}
 use Rattle.tcp_rules.specs.declared.records.Act.TheVariants.{Entered, Delivered, Send}

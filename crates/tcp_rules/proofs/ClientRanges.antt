@@ -1,23 +1,23 @@
 -- Each rule keeps a client in range, and sends few segments, all in range.
-use Rattle.std.proofs.Common.{◌≡◌, ◌⊎◌, ℕ, zero, suc, ◌+◌, ◌-◌, ◌*◌, ◌/◌, ◌%◌, ◌<◌, ◌≤◌, ◌^◌, Bool, true, false, ◌&&◌, ◌||◌, not, Option, Some, None, is_some, List, [], ◌∷◌, ◌++◌, length, max, min, nat_eq, nat_lt, nat_le, refl, sym, subst, ap, ◌∙◌, inl, inr, arith, length-append, if◌then◌else◌}
+use Rattle.std.proofs.Common.{◌≡◌, ◌⊎◌, ℕ, zero, suc, ◌+◌, ◌-◌, ◌*◌, ◌/◌, ◌<◌, ◌≤◌, ◌^◌, true, ◌&&◌, ◌||◌, Option, Some, None, is_some, List, [], ◌∷◌, ◌++◌, length, max, min, nat_eq, nat_lt, nat_le, refl, sym, subst, ap, inl, inr, arith, length-append, if◌then◌else◌}
 use Rattle.std.specs.Option.{ForSome}
 use Rattle.std.proofs.Math.Nat.{mul-le-mul, div-lt_iff_lt-mul}
 use Rattle.std.proofs.lemmas.Bool.{eqb-true}
 use Rattle.std.proofs.lemmas.Bool.Decides.{nat_tests}
 use Rattle.sim_base.specs.declared.records.TcpConfig.{TcpConfig}
 use Rattle.sim_base.specs.declared.records.TcpState.{TcpState}
-use Rattle.sim_base.specs.declared.records.TcpState.TheVariants.{SynSent, SynReceived, Established, FinWait1, FinWait2, TimeWait, LastAck, Closed}
+use Rattle.sim_base.specs.declared.records.TcpState.TheVariants.{SynSent, FinWait2, TimeWait, Closed}
 use Rattle.sim_base.specs.SegmentFields.{SegmentFields, IsSegment}
-use Rattle.tcp_clock.specs.Retransmission.{Timeout, IsTimeout, first_timeout, backed_off}
+use Rattle.tcp_clock.specs.Retransmission.{Timeout, IsTimeout}
 use Rattle.tcp_clock.specs.Congestion.{Window, IsWindow, first_window, grown, third_duplicate, timed_out, timed_out_again}
-use Rattle.tcp_clock.proofs.Ranges.{first_timeout_ranged, sampled_ranged, backed_off_ranged, first_window_ranged, grown_ranged, third_duplicate_ranged, timed_out_ranged, timed_out_again_ranged}
+use Rattle.tcp_clock.proofs.Ranges.{first_timeout_ranged, sampled_ranged, backed_off_ranged, grown_ranged, third_duplicate_ranged, timed_out_ranged, timed_out_again_ranged}
 use Rattle.tcp_rules.specs.declared.records.Act.{Act}
-use Rattle.tcp_rules.specs.declared.records.Act.TheVariants.{Entered, Delivered, Send}
+use Rattle.tcp_rules.specs.declared.records.Act.TheVariants.{Send}
 use Rattle.tcp_rules.specs.declared.records.Timing.{Timing}
-use Rattle.tcp_rules.specs.Segments.{IsTimedTcp, own_window, Turn, quiet, before, following, span, sent_of, is_ack_of, syn_segment, Each}
-use Rattle.tcp_rules.specs.Clients.{ClientFields, client_ack, client_fin, client_data, first_segment, measured, is_timed_below, advanced, with_deadline, opened, connected, allowed, edge, data_stop, data_count, data_sent, fin_acts, fin_sent, is_established, sent, synchronized, at_syn_ack, acknowledged, fin_acknowledged, at_new_ack, is_duplicate, at_duplicate, at_ack, at_any_ack, hears, heard, finished, at_last_fin, at_fin, at_plain, at_opening, at_later, client_at, client_segment, client_closed, window_after_timeout, retransmitted, at_client_timeout, client_timeout_at, client_timeout}
-use Rattle.tcp_rules.specs.Limits.{IsClient}
-use Rattle.tcp_rules.proofs.Cases.{if_case, both_left, both_right, each_append, sent_of-append, each_sent}
+use Rattle.tcp_rules.specs.Segments.{IsTimedTcp, own_window, Turn, quiet, following, span, sent_of, is_ack_of, syn_segment, Each}
+use Rattle.tcp_rules.specs.Clients.{ClientFields, client_ack, client_fin, client_data, first_segment, measured, is_timed_below, advanced, with_deadline, opened, connected, allowed, edge, data_stop, data_count, data_sent, fin_sent, is_established, sent, synchronized, at_syn_ack, acknowledged, at_new_ack, is_duplicate, at_duplicate, at_ack, at_any_ack, hears, heard, finished, at_last_fin, at_fin, at_plain, at_opening, at_later, client_at, client_segment, client_closed, window_after_timeout, retransmitted, at_client_timeout, client_timeout_at, client_timeout}
+use Rattle.tcp_rules.specs.Limits.{IsClientEnd}
+use Rattle.tcp_rules.proofs.Cases.{if_case, both_left, both_right, sent_of-append, each_sent}
 use Rattle.tcp_rules.proofs.Holes.{either_is}
 
 -- Segments.
@@ -34,22 +34,22 @@ syn_is config is =
     let iss = is.settings.iss in
     record { last = omega arith; ack = λ x e. absurd (cc); window = own_most config is }
 
-client_ack_is : (c : ClientFields) → IsClient c → IsSegment (client_ack c)
+client_ack_is : (c : ClientFields) → IsClientEnd c → IsSegment (client_ack c)
 client_ack_is c is =
     let iss = is.config.settings.iss in
     record { last = omega arith; ack = ack_some c.rcv (2 ^ 32) is.rcv; window = own_most c.config is.config }
 
-client_fin_is : (c : ClientFields) → IsClient c → IsSegment (client_fin c)
+client_fin_is : (c : ClientFields) → IsClientEnd c → IsSegment (client_fin c)
 client_fin_is c is =
     let iss = is.config.settings.iss in
     record { last = omega arith; ack = ack_some c.rcv (2 ^ 32) is.rcv; window = own_most c.config is.config }
 
-client_data_is : (c : ClientFields) (p n : ℕ) → p + n ≤ c.end + 1 → IsClient c → IsSegment (client_data c p n)
+client_data_is : (c : ClientFields) (p n : ℕ) → p + n ≤ c.end + 1 → IsClientEnd c → IsSegment (client_data c p n)
 client_data_is c p n within is =
     let iss = is.config.settings.iss in
     record { last = omega arith; ack = ack_some c.rcv (2 ^ 32) is.rcv; window = own_most c.config is.config }
 
-first_is : (c : ClientFields) → IsClient c → IsSegment (first_segment c)
+first_is : (c : ClientFields) → IsClientEnd c → IsSegment (first_segment c)
 unfolding first_segment
 first_is c is = if_case IsSegment (nat_eq c.una c.config.iss)
     (λ e. syn_is c.config is.config)
@@ -62,7 +62,7 @@ record IsFirstEnd (c : ClientFields) (s : SegmentFields) : Type 0 where
   past : c.config.iss + 1 ≤ c.una + span s
   within : c.una + span s ≤ c.end + 1
 
-first_ends : (c : ClientFields) → IsClient c → IsFirstEnd c (first_segment c)
+first_ends : (c : ClientFields) → IsClientEnd c → IsFirstEnd c (first_segment c)
 unfolding first_segment
 first_ends c is = if_case (IsFirstEnd c) (nat_eq c.una c.config.iss)
     (λ e. let at = eqb-true c.una c.config.iss e in record { past = omega arith; within = omega arith })
@@ -74,15 +74,15 @@ first_ends c is = if_case (IsFirstEnd c) (nat_eq c.una c.config.iss)
 
 -- A turn after which a client is in range, and which sends at most so many segments, all in range.
 pub record IsClientTurn (most : ℕ) (t : Turn ClientFields) : Type 0 where
-  pub client : IsClient t.after
+  pub client : IsClientEnd t.after
   pub segments : Each IsSegment (sent_of t.acts)
   pub few : length (sent_of t.acts) ≤ most
 
-quiet_turn : (most : ℕ) (c : ClientFields) → IsClient c → IsClientTurn most (quiet c)
+quiet_turn : (most : ℕ) (c : ClientFields) → IsClientEnd c → IsClientTurn most (quiet c)
 quiet_turn most c is = record { client = is; segments = tt; few = omega arith }
 
 -- one segment
-one_turn : (most : ℕ) (c : ClientFields) (s : SegmentFields) → 1 ≤ most → IsClient c → IsSegment s
+one_turn : (most : ℕ) (c : ClientFields) (s : SegmentFields) → 1 ≤ most → IsClientEnd c → IsSegment s
     → IsClientTurn most (record { after = c; acts = Send s ∷ [] })
 one_turn most c s some is sends = record { client = is; segments = (sends, tt); few = omega arith }
 
@@ -109,7 +109,7 @@ unfolding measured
 measured_ranged rto now None is = is
 measured_ranged rto now (Some timing) is = sampled_ranged rto (now - timing.since) is
 
-advanced_ranged : (c : ClientFields) (now n : ℕ) → c.nxt + n ≤ c.end + 1 → IsClient c → IsClient (advanced c now n)
+advanced_ranged : (c : ClientFields) (now n : ℕ) → c.nxt + n ≤ c.end + 1 → IsClientEnd c → IsClientEnd (advanced c now n)
 advanced_ranged c now n within is =
     let top = is.top_end in
     let nxt = is.iss_nxt in
@@ -132,7 +132,7 @@ advanced_ranged c now n within is =
       duplicates = is.duplicates;
     }
 
-deadline_ranged : (c : ClientFields) (now : ℕ) → IsClient c → IsClient (with_deadline c now)
+deadline_ranged : (c : ClientFields) (now : ℕ) → IsClientEnd c → IsClientEnd (with_deadline c now)
 deadline_ranged c now is = record {
   config = is.config;
   rto = is.rto;
@@ -151,7 +151,7 @@ deadline_ranged c now is = record {
   duplicates = is.duplicates;
 }
 
-data_turn : (n stop now : ℕ) (c : ClientFields) → (c.nxt < stop → stop ≤ c.end) → IsClient c → IsClientTurn n (data_sent n stop now c)
+data_turn : (n stop now : ℕ) (c : ClientFields) → (c.nxt < stop → stop ≤ c.end) → IsClientEnd c → IsClientTurn n (data_sent n stop now c)
 data_turn zero stop now c within is = quiet_turn 0 c is
 data_turn (suc n) stop now c within is =
     let m = min c.window.mss (stop - c.nxt) in
@@ -165,7 +165,7 @@ data_turn (suc n) stop now c within is =
     fit : (nxt m stop end mss : ℕ) → m ≡ min mss (stop - nxt) → nxt ≤ end + 1 → (nxt < stop → stop ≤ end) → nxt + m ≤ end + 1
     fit nxt m stop end mss is low within = grind arith
 
-fin_turn : (now : ℕ) (c : ClientFields) → IsClient c → IsClientTurn 1 (fin_sent now c)
+fin_turn : (now : ℕ) (c : ClientFields) → IsClientEnd c → IsClientTurn 1 (fin_sent now c)
 unfolding fin_sent
 fin_turn now c is = if_case (IsClientTurn 1) (nat_eq c.nxt c.end)
     (λ e.
@@ -215,7 +215,7 @@ few_pieces len mss send some (inl most) =
 few_pieces len mss send some (inr most) =
     let below = (div-lt_iff_lt-mul {k = mss} {x = len + (mss - 1)} {y = send + 2} (omega arith)).1 (omega arith) in omega (arith, below)
 
-pub few_data : (c : ClientFields) → IsClient c → data_count (data_stop c) c ≤ c.config.send + 1
+pub few_data : (c : ClientFields) → IsClientEnd c → data_count (data_stop c) c ≤ c.config.send + 1
 unfolding data_count
 few_data c is =
     let within = stop_allowed c is.una_nxt in
@@ -227,7 +227,7 @@ few_data c is =
           inr (subst (λ (m : ℕ). data_stop c - c.nxt ≤ c.config.send * m) (sym own) most)
     ])
 
-sent_turn : (now : ℕ) (c : ClientFields) → IsClient c → IsClientTurn 65537 (sent now c)
+sent_turn : (now : ℕ) (c : ClientFields) → IsClientEnd c → IsClientTurn 65537 (sent now c)
 unfolding sent
 sent_turn now c is =
     let stop = data_stop c in
@@ -240,7 +240,7 @@ sent_turn now c is =
     record { client = deadline_ranged (fin_sent now d.after).after now last.client; segments = all.segments; few = all.few }
 
 -- Opening.
-opened_ranged : (config : TcpConfig) (bytes now : ℕ) → IsTimedTcp config → bytes ≤ 2 ^ 30 → IsClient (opened config bytes now)
+opened_ranged : (config : TcpConfig) (bytes now : ℕ) → IsTimedTcp config → bytes ≤ 2 ^ 30 → IsClientEnd (opened config bytes now)
 unfolding opened first_window
 opened_ranged config bytes now is few =
     let mss = is.settings.mss in
@@ -270,7 +270,7 @@ connected_turn config bytes now is few =
 sized : (own offered mss : ℕ) → mss ≡ max 1 (min own offered) → 1 ≤ own → (nat_le offered mss || nat_eq mss own) ≡ true
 sized own offered mss is some = grind (arith, nat_tests)
 
-synchronized_ranged : (c : ClientFields) (s : SegmentFields) (now : ℕ) → IsSegment s → IsClient c → IsClient (synchronized c s now)
+synchronized_ranged : (c : ClientFields) (s : SegmentFields) (now : ℕ) → IsSegment s → IsClientEnd c → IsClientEnd (synchronized c s now)
 unfolding first_window
 synchronized_ranged c s now segment is =
     let mss = max 1 (min c.config.mss s.window) in
@@ -296,7 +296,7 @@ synchronized_ranged c s now segment is =
       duplicates = is.duplicates;
     }
 
-syn_ack_turn : (c : ClientFields) (s : SegmentFields) (now : ℕ) → IsSegment s → IsClient c → IsClientTurn 65538 (at_syn_ack c s now)
+syn_ack_turn : (c : ClientFields) (s : SegmentFields) (now : ℕ) → IsSegment s → IsClientEnd c → IsClientTurn 65538 (at_syn_ack c s now)
 unfolding at_syn_ack
 syn_ack_turn c s now segment is =
     let next = synchronized c s now in
@@ -306,7 +306,7 @@ syn_ack_turn c s now segment is =
     record { client = rest.client; segments = (client_ack_is next ranged, rest.segments); few = omega arith }
 
 -- Acknowledgments.
-acknowledged_ranged : (c : ClientFields) (ack now : ℕ) → c.una < ack → ack ≤ c.top → IsClient c → IsClient (acknowledged c ack now)
+acknowledged_ranged : (c : ClientFields) (ack now : ℕ) → c.una < ack → ack ≤ c.top → IsClientEnd c → IsClientEnd (acknowledged c ack now)
 unfolding grown
 acknowledged_ranged c ack now new within is =
     let nxt = is.iss_nxt in
@@ -330,7 +330,7 @@ acknowledged_ranged c ack now new within is =
       duplicates = omega arith;
     }
 
-new_ack_turn : (c : ClientFields) (ack now : ℕ) → c.una < ack → ack ≤ c.top → IsClient c → IsClientTurn 65537 (at_new_ack c ack now)
+new_ack_turn : (c : ClientFields) (ack now : ℕ) → c.una < ack → ack ≤ c.top → IsClientEnd c → IsClientTurn 65537 (at_new_ack c ack now)
 unfolding at_new_ack
 new_ack_turn c ack now new within is =
     let next = acknowledged c ack now in
@@ -359,7 +359,7 @@ new_ack_turn c ack now new within is =
     })
     (λ e. sent_turn now next ranged)
 
-duplicate_turn : (c : ClientFields) → IsClient c → IsClientTurn 65537 (at_duplicate c)
+duplicate_turn : (c : ClientFields) → IsClientEnd c → IsClientTurn 65537 (at_duplicate c)
 unfolding at_duplicate third_duplicate
 duplicate_turn c is =
     let una = is.una_nxt in
@@ -411,7 +411,7 @@ duplicate_turn c is =
       few = omega arith;
     })
 
-ack_turn : (c : ClientFields) (s : SegmentFields) (ack now : ℕ) → IsClient c → IsClientTurn 65537 (at_ack c s ack now)
+ack_turn : (c : ClientFields) (s : SegmentFields) (ack now : ℕ) → IsClientEnd c → IsClientTurn 65537 (at_ack c s ack now)
 unfolding at_ack
 ack_turn c s ack now is = if_case (IsClientTurn 65537) (nat_lt c.una ack && nat_le ack c.top)
     (λ e.
@@ -420,19 +420,19 @@ ack_turn c s ack now is = if_case (IsClientTurn 65537) (nat_lt c.una ack && nat_
     new_ack_turn c ack now (grind (arith, nat_tests)) (grind (arith, nat_tests)) is)
     (λ e. if_case (IsClientTurn 65537) (is_duplicate c s ack) (λ k. duplicate_turn c is) (λ k. quiet_turn 65537 c is))
 
-any_ack_turn : (o : Option ℕ) (c : ClientFields) (s : SegmentFields) (now : ℕ) → IsClient c → IsClientTurn 65537 (at_any_ack o c s now)
+any_ack_turn : (o : Option ℕ) (c : ClientFields) (s : SegmentFields) (now : ℕ) → IsClientEnd c → IsClientTurn 65537 (at_any_ack o c s now)
 any_ack_turn None c s now is = quiet_turn 65537 c is
 any_ack_turn (Some ack) c s now is = ack_turn c s ack now is
 
-heard_turn : (c : ClientFields) (s : SegmentFields) (now : ℕ) → IsClient c → IsClientTurn 65537 (heard c s now)
+heard_turn : (c : ClientFields) (s : SegmentFields) (now : ℕ) → IsClientEnd c → IsClientTurn 65537 (heard c s now)
 unfolding heard
 heard_turn c s now is = if_case (IsClientTurn 65537) (hears c.state) (λ e. any_ack_turn s.ack c s now is) (λ e. quiet_turn 65537 c is)
 
 -- The peer's FIN.
-last_fin_turn : (c : ClientFields) (now : ℕ) → c.rcv < 2 ^ 32 → IsClient c → IsClientTurn 1 (at_last_fin c now)
+last_fin_turn : (c : ClientFields) (now : ℕ) → c.rcv < 2 ^ 32 → IsClientEnd c → IsClientTurn 1 (at_last_fin c now)
 unfolding at_last_fin
 last_fin_turn c now below is =
-    let ranged : IsClient (finished c now) = record {
+    let ranged : IsClientEnd (finished c now) = record {
       config = is.config;
       rto = is.rto;
       window = is.window;
@@ -451,7 +451,7 @@ last_fin_turn c now below is =
     } in
     record { client = ranged; segments = (client_ack_is (finished c now) ranged, tt); few = omega arith }
 
-fin_heard_turn : (state : TcpState) (c : ClientFields) (s : SegmentFields) (now : ℕ) → IsSegment s → IsClient c → IsClientTurn 1 (at_fin state c s now)
+fin_heard_turn : (state : TcpState) (c : ClientFields) (s : SegmentFields) (now : ℕ) → IsSegment s → IsClientEnd c → IsClientTurn 1 (at_fin state c s now)
 fin_heard_turn FinWait2 c s now segment is = if_case (IsClientTurn 1) (s.fin && nat_eq (s.seq + s.length) c.rcv)
     (λ e.
     let at = eqb-true (s.seq + s.length) c.rcv (both_right s.fin (nat_eq (s.seq + s.length) c.rcv) e) in
@@ -463,35 +463,35 @@ fin_heard_turn TimeWait c s now segment is = if_case (IsClientTurn 1) s.fin
 fin_heard_turn _ c s now segment is = quiet_turn 1 c is
 
 -- Segments.
-plain_turn : (c : ClientFields) (s : SegmentFields) (now : ℕ) → IsSegment s → IsClient c → IsClientTurn 65538 (at_plain c s now)
+plain_turn : (c : ClientFields) (s : SegmentFields) (now : ℕ) → IsSegment s → IsClientEnd c → IsClientTurn 65538 (at_plain c s now)
 unfolding at_plain
 plain_turn c s now segment is =
     let t = heard c s now in
     let first = heard_turn c s now is in
     following_turn 65537 1 t.acts (at_fin t.after.state t.after s now) first.segments first.few (fin_heard_turn t.after.state t.after s now segment first.client)
 
-later_turn : (c : ClientFields) (s : SegmentFields) (now : ℕ) → IsSegment s → IsClient c → IsClientTurn 65538 (at_later c s now)
+later_turn : (c : ClientFields) (s : SegmentFields) (now : ℕ) → IsSegment s → IsClientEnd c → IsClientTurn 65538 (at_later c s now)
 unfolding at_later
 later_turn c s now segment is = if_case (IsClientTurn 65538) s.syn
     (λ e. if_case (IsClientTurn 65538) (is_some s.ack)
     (λ k. one_turn 65538 c (client_ack c) (omega arith) is (client_ack_is c is)) (λ k. quiet_turn 65538 c is))
     (λ e. plain_turn c s now segment is)
 
-opening_turn : (c : ClientFields) (s : SegmentFields) (now : ℕ) → IsSegment s → IsClient c → IsClientTurn 65538 (at_opening c s now)
+opening_turn : (c : ClientFields) (s : SegmentFields) (now : ℕ) → IsSegment s → IsClientEnd c → IsClientTurn 65538 (at_opening c s now)
 unfolding at_opening
 opening_turn c s now segment is = if_case (IsClientTurn 65538) (s.syn && is_ack_of (c.config.iss + 1) s.ack)
     (λ e. syn_ack_turn c s now segment is) (λ e. quiet_turn 65538 c is)
 
-at_turn : (state : TcpState) (c : ClientFields) (s : SegmentFields) (now : ℕ) → IsSegment s → IsClient c → IsClientTurn 65538 (client_at state c s now)
+at_turn : (state : TcpState) (c : ClientFields) (s : SegmentFields) (now : ℕ) → IsSegment s → IsClientEnd c → IsClientTurn 65538 (client_at state c s now)
 at_turn SynSent c s now segment is = opening_turn c s now segment is
 at_turn Closed c s now segment is = quiet_turn 65538 c is
 at_turn _ c s now segment is = later_turn c s now segment is
 
-pub client_segment_turn : (c : ClientFields) (s : SegmentFields) (now : ℕ) → IsSegment s → IsClient c → IsClientTurn 65538 (client_segment c s now)
+pub client_segment_turn : (c : ClientFields) (s : SegmentFields) (now : ℕ) → IsSegment s → IsClientEnd c → IsClientTurn 65538 (client_segment c s now)
 client_segment_turn c s now segment is = at_turn c.state c s now segment is
 
 -- Timeouts.
-closed_turn : (c : ClientFields) → IsClient c → IsClientTurn 1 (client_closed c)
+closed_turn : (c : ClientFields) → IsClientEnd c → IsClientTurn 1 (client_closed c)
 closed_turn c is = record {
   client = record {
     config = is.config;
@@ -519,19 +519,19 @@ record IsWindowOf (mss : ℕ) (w : Window) : Type 0 where
   ranged : IsWindow w
   same : w.mss ≡ mss
 
-any_timeout_window : (c : ClientFields) → IsClient c → IsWindowOf c.window.mss (if nat_eq c.tries 0 then timed_out c.window (c.nxt - c.una) else timed_out_again c.window)
+any_timeout_window : (c : ClientFields) → IsClientEnd c → IsWindowOf c.window.mss (if nat_eq c.tries 0 then timed_out c.window (c.nxt - c.una) else timed_out_again c.window)
 unfolding timed_out timed_out_again
 any_timeout_window c is =
     if_case (IsWindowOf c.window.mss) (nat_eq c.tries 0)
     (λ e. record { ranged = timed_out_ranged c.window (c.nxt - c.una) is.window; same = refl })
     (λ e. record { ranged = timed_out_again_ranged c.window is.window; same = refl })
 
-timeout_window : (state : TcpState) (c : ClientFields) → IsClient c → IsWindowOf c.window.mss (window_after_timeout state c)
+timeout_window : (state : TcpState) (c : ClientFields) → IsClientEnd c → IsWindowOf c.window.mss (window_after_timeout state c)
 unfolding window_after_timeout
 timeout_window SynSent c is = record { ranged = is.window; same = refl }
 timeout_window _ c is = any_timeout_window c is
 
-retransmitted_ranged : (c : ClientFields) (now : ℕ) → c.tries < c.config.tries → IsClient c → IsClient (retransmitted c now)
+retransmitted_ranged : (c : ClientFields) (now : ℕ) → c.tries < c.config.tries → IsClientEnd c → IsClientEnd (retransmitted c now)
 retransmitted_ranged c now more is =
     let window = timeout_window c.state c is in
     let ends = first_ends c is in
@@ -556,7 +556,7 @@ retransmitted_ranged c now more is =
       duplicates = omega arith;
     }
 
-again_turn : (c : ClientFields) (now : ℕ) → IsClient c → IsClientTurn 1 (at_client_timeout c now)
+again_turn : (c : ClientFields) (now : ℕ) → IsClientEnd c → IsClientTurn 1 (at_client_timeout c now)
 unfolding at_client_timeout
 again_turn c now is = if_case (IsClientTurn 1) (nat_lt c.config.tries (c.tries + 1))
     (λ e. closed_turn c is)
@@ -566,9 +566,9 @@ again_turn c now is = if_case (IsClientTurn 1) (nat_lt c.config.tries (c.tries +
       few = omega arith;
     })
 
-timeout_at_turn : (state : TcpState) (c : ClientFields) (now : ℕ) → IsClient c → IsClientTurn 1 (client_timeout_at state c now)
+timeout_at_turn : (state : TcpState) (c : ClientFields) (now : ℕ) → IsClientEnd c → IsClientTurn 1 (client_timeout_at state c now)
 timeout_at_turn TimeWait c now is = closed_turn c is
 timeout_at_turn _ c now is = again_turn c now is
 
-pub client_timeout_turn : (c : ClientFields) (now : ℕ) → IsClient c → IsClientTurn 1 (client_timeout c now)
+pub client_timeout_turn : (c : ClientFields) (now : ℕ) → IsClientEnd c → IsClientTurn 1 (client_timeout c now)
 client_timeout_turn c now is = timeout_at_turn c.state c now is

@@ -1,11 +1,11 @@
 -- A transfer stays sound, whatever steps are taken.
-use Rattle.std.proofs.Common.{◌≡◌, ◌⊎◌, ℕ, zero, suc, ◌+◌, ◌<◌, ◌≤◌, Bool, true, false, Option, Some, None, is_some, List, [], ◌∷◌, ◌++◌, slice_get, refl, sym, inl, inr, subst, arith, if◌then◌else◌}
+use Rattle.std.proofs.Common.{◌≡◌, ℕ, zero, suc, ◌+◌, ◌≤◌, Option, Some, None, is_some, List, [], ◌∷◌, slice_get, refl, inl, inr, subst, arith}
 use Rattle.sim_base.specs.declared.records.TcpConfig.{TcpConfig}
 use Rattle.sim_base.specs.SegmentFields.{SegmentFields}
-use Rattle.tcp_rules.specs.Segments.{Turn, sent_of, syn_segment, Each}
+use Rattle.tcp_rules.specs.Segments.{Turn, sent_of, Each}
 use Rattle.tcp_rules.specs.Clients.{ClientFields, opened, client_segment, client_timeout}
 use Rattle.tcp_rules.specs.Servers.{ServerFields, listened, server_segment, server_timeout}
-use Rattle.tcp_rules.specs.Transfers.{World, Step, ToClient, ToServer, ClientTimeout, ServerTimeout, client_did, server_did, client_gets, server_gets, after_step, after_steps, beginning, LiesIn, LiesAmong, IsSound, HoldsOnly, IsAmong}
+use Rattle.tcp_rules.specs.Transfers.{World, Step, ToClient, ToServer, ClientTimeout, ServerTimeout, client_did, server_did, client_gets, server_gets, after_step, after_steps, beginning, IsSound, HoldsOnly, IsAmong}
 use Rattle.tcp_rules.proofs.Cases.{if_case, each_append}
 use Rattle.tcp_rules.proofs.Sending.{IsProper, IsHeld, IsGood, AtMost, good_segment, good_timeout}
 use Rattle.tcp_rules.proofs.Receiving.{holds_only_more, IsBounded, IsTaken, only_segment, only_timeout, taken_segment, taken_timeout}

@@ -1,6 +1,6 @@
 -- Ranges of positions, and the first that none holds.
-use Rattle.std.proofs.Common.{◌≡◌, ◌⊎◌, ℕ, zero, suc, ◌+◌, ◌-◌, ◌<◌, ◌≤◌, Bool, true, false, ◌&&◌, ◌||◌, max, nat_lt, nat_le, List, [], ◌∷◌, refl, sym, ◌∙◌, ap, subst, inl, inr, arith, if◌then◌else◌}
-use Rattle.std.specs.List.{list_any, filter}
+use Rattle.std.proofs.Common.{◌≡◌, ◌⊎◌, ℕ, zero, suc, ◌+◌, ◌-◌, ◌<◌, ◌≤◌, Bool, true, false, ◌||◌, max, nat_lt, nat_le, List, [], ◌∷◌, refl, sym, ◌∙◌, ap, subst, inl, inr, arith}
+use Rattle.std.specs.List.{list_any}
 use Rattle.std.proofs.lemmas.Bool.Decides.{nat_tests, eqb_tells}
 use Rattle.tcp_rules.specs.declared.records.Range.{Range}
 use Rattle.tcp_rules.specs.Servers.{holds, covers, is_within, placed, added, furthest, first_unmarked_at, first_unmarked, hole, IsHole, beyond}
@@ -174,3 +174,24 @@ pub furthest_beyond : (q : ℕ) (rs : List Range) → furthest (beyond q rs) ≤
 furthest_beyond q [] = omega arith
 furthest_beyond q (r ∷ rs) = if_case (λ xs. furthest xs ≤ furthest (r ∷ rs)) (nat_lt q r.to)
     (λ e. let rest = furthest_beyond q rs in omega arith) (λ e. let rest = furthest_beyond q rs in omega arith)
+
+-- A range that is added again changes nothing.
+within_self : (r : Range) → is_within r r ≡ true
+within_self r = grind (arith, nat_tests)
+
+within_placed : (r : Range) (ks : List Range) → list_any (is_within r) (placed r ks) ≡ true
+within_placed r [] = either (is_within r r) false (inl (within_self r))
+within_placed r (k ∷ ks) = if_case (λ xs. list_any (is_within r) xs ≡ true) (nat_lt r.from k.from)
+    (λ e. either (is_within r r) (list_any (is_within r) (k ∷ ks)) (inl (within_self r)))
+    (λ e. either (is_within r k) (list_any (is_within r) (placed r ks)) (inr (within_placed r ks)))
+
+within_added : (r : Range) (ks : List Range) → list_any (is_within r) (added r ks) ≡ true
+unfolding added
+within_added r ks = if_case (λ xs. list_any (is_within r) xs ≡ true) (list_any (is_within r) ks) (λ e. e) (λ e. within_placed r ks)
+
+held_stays : (r : Range) (ks : List Range) → list_any (is_within r) ks ≡ true → added r ks ≡ ks
+unfolding added
+held_stays r ks any = if_case (λ xs. xs ≡ ks) (list_any (is_within r) ks) (λ e. refl) (λ e. absurd (clash (list_any (is_within r) ks) any e))
+
+pub added_again : (r : Range) (ks : List Range) → added r (added r ks) ≡ added r ks
+added_again r ks = held_stays r (added r ks) (within_added r ks)

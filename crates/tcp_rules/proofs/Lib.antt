@@ -6,4 +6,5 @@ pub mod Receiving
 pub mod Sending
 pub mod ServerRanges
 pub mod Sessions
+pub mod Windows
 mod Worked

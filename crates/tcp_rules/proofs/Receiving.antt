@@ -1,16 +1,15 @@
 -- What a server passes lies in the segments that came to it, and within the client's data.
-use Rattle.std.proofs.Common.{◌≡◌, ◌⊎◌, ℕ, zero, suc, ◌+◌, ◌-◌, ◌<◌, ◌≤◌, Bool, true, false, ◌&&◌, Option, Some, None, List, [], ◌∷◌, ◌++◌, nat_eq, nat_lt, nat_le, refl, sym, ◌∙◌, ap, subst, inl, inr, arith, if◌then◌else◌}
+use Rattle.std.proofs.Common.{◌≡◌, ◌⊎◌, ℕ, zero, suc, ◌+◌, ◌-◌, ◌<◌, ◌≤◌, Bool, true, false, ◌&&◌, Option, Some, None, List, [], ◌∷◌, ◌++◌, nat_lt, nat_le, refl, sym, ◌∙◌, ap, subst, inl, inr, arith, if◌then◌else◌}
 use Rattle.std.proofs.lemmas.Bool.{eqb-true}
 use Rattle.std.proofs.lemmas.Bool.Decides.{nat_tests, eqb_tells}
 use Rattle.sim_base.specs.declared.records.TcpState.{TcpState}
-use Rattle.sim_base.specs.declared.records.TcpState.TheVariants.{SynSent, SynReceived, Established, FinWait1, FinWait2, TimeWait, LastAck, Closed}
+use Rattle.sim_base.specs.declared.records.TcpState.TheVariants.{SynReceived, Established, LastAck}
 use Rattle.sim_base.specs.SegmentFields.{SegmentFields}
-use Rattle.tcp_rules.specs.declared.records.Act.{Act}
-use Rattle.tcp_rules.specs.declared.records.Act.TheVariants.{Entered, Delivered, Send}
-use Rattle.tcp_rules.specs.Segments.{Turn, quiet, before, following, span, carries, data_of, is_ack_of, sent_of, Each}
-use Rattle.tcp_rules.specs.Servers.{ServerFields, server_syn_ack, server_ack, server_fin, holds, covers, added, hole, fits, kept_with, fin_with, keeping, moved, told, finishing, at_end, at_kept, at_data, established, at_start, server_closed, at_last, server_at, server_segment, server_last, waiting, server_timeout}
+use Rattle.tcp_rules.specs.declared.records.Act.TheVariants.{Send}
+use Rattle.tcp_rules.specs.Segments.{Turn, quiet, carries, data_of, is_ack_of, sent_of, Each}
+use Rattle.tcp_rules.specs.Servers.{ServerFields, server_syn_ack, server_fin, holds, covers, hole, fits, kept_with, fin_with, keeping, moved, told, finishing, at_end, at_kept, at_data, established, at_start, server_closed, at_last, server_at, server_segment, server_last, waiting, server_timeout}
 use Rattle.tcp_rules.specs.Transfers.{LiesIn, LiesAmong, HoldsOnly, IsAmong}
-use Rattle.tcp_rules.proofs.Cases.{if_case, both_left, both_right, each_append, sent_of-append, each_sent}
+use Rattle.tcp_rules.proofs.Cases.{if_case, both_left, both_right, each_sent}
 use Rattle.tcp_rules.proofs.Holes.{hole_low, hole_passes, covers_beyond, split_cover}
 use Rattle.tcp_rules.proofs.Sending.{IsProper, AtMost}
 

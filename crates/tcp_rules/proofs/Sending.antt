@@ -1,14 +1,14 @@
 -- What a client sends lies within its data, whatever it hears.
-use Rattle.std.proofs.Common.{◌≡◌, ℕ, zero, suc, ◌+◌, ◌-◌, ◌*◌, ◌/◌, ◌%◌, ◌<◌, ◌≤◌, Bool, true, false, ◌&&◌, not, Option, Some, None, is_some, List, [], ◌∷◌, ◌++◌, max, min, nat_eq, nat_lt, nat_le, refl, sym, subst, arith, if◌then◌else◌}
+use Rattle.std.proofs.Common.{◌≡◌, ℕ, zero, suc, ◌+◌, ◌-◌, ◌<◌, ◌≤◌, true, false, ◌&&◌, Option, Some, None, is_some, List, [], ◌∷◌, ◌++◌, min, nat_eq, nat_lt, nat_le, refl, arith}
 use Rattle.std.proofs.lemmas.Bool.Decides.{nat_tests}
 use Rattle.sim_base.specs.declared.records.TcpState.{TcpState}
-use Rattle.sim_base.specs.declared.records.TcpState.TheVariants.{SynSent, SynReceived, Established, FinWait1, FinWait2, TimeWait, LastAck, Closed}
+use Rattle.sim_base.specs.declared.records.TcpState.TheVariants.{SynSent, FinWait2, TimeWait, Closed}
 use Rattle.sim_base.specs.SegmentFields.{SegmentFields}
 use Rattle.tcp_rules.specs.declared.records.Act.{Act}
-use Rattle.tcp_rules.specs.declared.records.Act.TheVariants.{Entered, Delivered, Send}
-use Rattle.tcp_rules.specs.Segments.{Turn, quiet, before, following, sent_of, is_ack_of, syn_segment, Each}
-use Rattle.tcp_rules.specs.Clients.{ClientFields, client_ack, client_fin, client_data, first_segment, advanced, with_deadline, edge, data_stop, data_count, data_sent, fin_acts, fin_sent, is_established, sent, synchronized, at_syn_ack, acknowledged, at_new_ack, is_duplicate, at_duplicate, at_ack, at_any_ack, hears, heard, at_last_fin, at_fin, at_plain, at_opening, at_later, client_at, client_segment, client_closed, retransmitted, at_client_timeout, client_timeout_at, client_timeout}
-use Rattle.tcp_rules.proofs.Cases.{if_case, both_left, both_right, each_append, sent_of-append, each_sent}
+use Rattle.tcp_rules.specs.declared.records.Act.TheVariants.{Send}
+use Rattle.tcp_rules.specs.Segments.{Turn, quiet, following, sent_of, is_ack_of, syn_segment, Each}
+use Rattle.tcp_rules.specs.Clients.{ClientFields, client_ack, client_fin, client_data, first_segment, advanced, edge, data_stop, data_count, data_sent, fin_sent, is_established, sent, synchronized, at_syn_ack, acknowledged, at_new_ack, is_duplicate, at_duplicate, at_ack, at_any_ack, hears, heard, at_last_fin, at_fin, at_plain, at_opening, at_later, client_at, client_segment, client_closed, at_client_timeout, client_timeout_at, client_timeout}
+use Rattle.tcp_rules.proofs.Cases.{if_case, each_sent}
 
 -- a segment whose data ends at most at an end, where its FIN stands
 pub record IsProper (end : ℕ) (s : SegmentFields) : Type 0 where

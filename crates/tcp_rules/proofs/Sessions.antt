@@ -1,5 +1,5 @@
 -- The rules of either kind of session.
-use Rattle.std.proofs.Common.{ℕ, ◌+◌, ◌≤◌, ◌^◌, List, [], arith}
+use Rattle.std.proofs.Common.{ℕ, ◌+◌, ◌≤◌, ◌^◌, [], arith}
 use Rattle.sim_base.specs.declared.records.TcpConfig.{TcpConfig}
 use Rattle.sim_base.specs.SegmentFields.{SegmentFields, IsSegment}
 use Rattle.tcp_rules.specs.Segments.{IsTimedTcp, Turn}

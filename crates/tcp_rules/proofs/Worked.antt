@@ -4,7 +4,7 @@ use Rattle.sim_base.specs.declared.records.TcpConfig.{TcpConfig}
 use Rattle.sim_base.specs.declared.records.TcpState.{TcpState}
 use Rattle.sim_base.specs.declared.records.TcpState.TheVariants.{SynSent, SynReceived, Established, FinWait1, FinWait2, TimeWait, LastAck, Closed}
 use Rattle.sim_base.specs.SegmentFields.{SegmentFields}
-use Rattle.tcp_clock.specs.Retransmission.{first_timeout, sampled, backed_off}
+use Rattle.tcp_clock.specs.Retransmission.{first_timeout, sampled}
 use Rattle.tcp_clock.specs.Congestion.{first_window, grown}
 use Rattle.tcp_rules.specs.declared.records.Act.{Act}
 use Rattle.tcp_rules.specs.declared.records.Act.TheVariants.{Entered, Delivered, Send}

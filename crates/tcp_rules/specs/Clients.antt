@@ -135,6 +135,22 @@ data_sent (suc n) stop now c =
     let length = min c.window.mss (stop - c.nxt) in
     before (Send (client_data c c.nxt length)) (data_sent n stop now (advanced c now length))
 
+-- What this comes to: while data is left and the next segment of it has room beside what is in
+-- flight, that segment goes out.
+abbrev pub data_out : (now : ℕ) → ClientFields → Turn ClientFields
+data_out now c = data_sent (data_count (data_stop c) c) (data_stop c) now c
+
+abbrev pub next_length : ClientFields → ℕ
+next_length c = min c.window.mss (c.end - c.nxt)
+
+abbrev pub may_send : ClientFields → Bool
+may_send c = nat_lt c.nxt c.end && nat_le (next_length c) (allowed c - (c.nxt - c.una))
+
+abbrev pub sent_next : (now : ℕ) → ClientFields → Turn ClientFields
+sent_next now c =
+    let length = next_length c in
+    if may_send c then before (Send (client_data c c.nxt length)) (data_out now (advanced c now length)) else quiet c
+
 -- the FIN (RFC 793 section 3.5)
 abbrev pub is_established : TcpState → Bool
 is_established Established = true

@@ -10,7 +10,7 @@ use Rattle.tcp_rules.specs.Servers.{ServerFields, furthest}
 use Rattle.tcp_rules.specs.Sessions.{End, Client, Server}
 
 -- segments are of the own size, unless the peer's window is no greater than one
-pub record IsClient (c : ClientFields) : Type 0 where
+pub record IsClientEnd (c : ClientFields) : Type 0 where
   pub config : IsTimedTcp c.config
   pub rto : IsTimeout c.rto
   pub window : IsWindow c.window
@@ -27,7 +27,7 @@ pub record IsClient (c : ClientFields) : Type 0 where
   pub tries : c.tries ≤ c.config.tries
   pub duplicates : c.duplicates ≤ 4
 
-pub record IsServer (s : ServerFields) : Type 0 where
+pub record IsServerEnd (s : ServerFields) : Type 0 where
   pub config : IsTimedTcp s.config
   pub rto : IsTimeout s.rto
   pub rcv : s.rcv ≤ 2 ^ 32
@@ -37,8 +37,8 @@ pub record IsServer (s : ServerFields) : Type 0 where
   pub tries : s.tries ≤ s.config.tries
 
 abbrev pub IsEnd : End → Type 0
-IsEnd (Client c) = IsClient c
-IsEnd (Server s) = IsServer s
+IsEnd (Client c) = IsClientEnd c
+IsEnd (Server s) = IsServerEnd s
 
 -- a turn after which a session is in range, and which sends at most so many segments, all in range
 pub record IsOrderly (most : ℕ) (t : Turn End) : Type 0 where

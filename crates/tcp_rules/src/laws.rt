@@ -4,9 +4,10 @@ ghost use Rattle.sim_base.specs.SegmentFields.{SegmentFields, IsSegment};
 ghost use Rattle.sim_base.specs.declared.records.TcpConfig.{TcpConfig};
 ghost use Rattle.tcp_rules.specs.declared.records.Range.{Range};
 ghost use Rattle.tcp_rules.specs.Segments.{IsTimedTcp};
+ghost use Rattle.tcp_rules.specs.Clients.{ClientFields, data_out, sent_next};
 ghost use Rattle.tcp_rules.specs.Servers.{ServerFields, accepted, added, covers, hole, holds, IsHole, server_segment, server_timeout};
 ghost use Rattle.tcp_rules.specs.Sessions.{End, connecting, accepting, at_segment, at_timeout};
-ghost use Rattle.tcp_rules.specs.Limits.{IsEnd, IsOrderly};
+ghost use Rattle.tcp_rules.specs.Limits.{IsClientEnd, IsEnd, IsOrderly};
 ghost use Rattle.tcp_rules.specs.Transfers.{Step, IsSound, HoldsOnly, IsAmong, after_steps, beginning};
 
 /// Whatever a network loses, repeats, delays or reorders, and whenever deadlines pass: a server
@@ -39,9 +40,16 @@ pub fn servers_hold_only_what_came()
     ensures more { (first : ℕ) (gs hs : List SegmentFields) (s : ServerFields) → HoldsOnly first gs s → HoldsOnly first (gs ++ hs) s }
 {}
 
-/// Kept ranges are a set of positions: what is added is held besides what was, and the hole is the
-/// first position from a given one on that is not held.
+/// Data goes out while any is left and the next segment of it has room in the windows: first that
+/// segment, and then what may go out after it.
+pub fn data_goes_while_it_may()
+    ensures { (now : ℕ) (c : ClientFields) → IsClientEnd c → data_out now c ≡ sent_next now c }
+{}
+
+/// Kept ranges are a set of positions: what is added is held besides what was, and a range that is
+/// added again changes nothing. The hole is the first position from a given one on that is not held.
 pub fn ranges_are_sets()
     ensures added { (r : Range) (rs : List Range) (p : ℕ) → covers (added r rs) p ≡ (holds r p || covers rs p) }
+    ensures again { (r : Range) (rs : List Range) → added r (added r rs) ≡ added r rs }
     ensures hole { (rs : List Range) (p : ℕ) → IsHole rs p (hole rs p) }
 {}

@@ -1,6 +1,6 @@
 -- Lists of ranges in order of their beginnings, and one scan of them.
-use Rattle.std.proofs.Common.{◌≡◌, ◌⊎◌, ℕ, zero, suc, ◌+◌, ◌-◌, ◌<◌, ◌≤◌, Bool, true, false, not, ◌&&◌, ◌||◌, max, min, nat_eq, nat_lt, nat_le, List, [], ◌∷◌, ◌++◌, length, take, drop, refl, sym, ◌∙◌, ap, arith, inl, inr, if◌then◌else◌, cond, unwrap_or, Option, Some, None, get_or, drop-cons, add-one}
-use Rattle.std.specs.List.{position, position_or_len, prefix_len, filter, insert}
+use Rattle.std.proofs.Common.{◌≡◌, ◌⊎◌, ℕ, zero, suc, ◌+◌, ◌<◌, ◌≤◌, Bool, true, false, not, ◌||◌, max, min, nat_eq, nat_lt, nat_le, List, [], ◌∷◌, length, drop, refl, sym, ◌∙◌, ap, arith, inl, inr, if◌then◌else◌, cond, unwrap_or, Some, None, get_or, drop-cons}
+use Rattle.std.specs.List.{position, position_or_len, prefix_len, insert}
 use Rattle.std.proofs.lemmas.Bool.Decides.{nat_tests}
 use Rattle.tcp_rules.specs.declared.records.Range.{Range}
 use Rattle.tcp_rules.specs.Servers.{holds, covers, placed, hole, IsHole, beyond}

@@ -32,7 +32,7 @@ pub(crate) struct Client {
 
 impl Model for Client {
     ghost use Rattle.tcp_rules.specs.Clients.{ClientFields};
-    ghost use Rattle.tcp_rules.specs.Limits.{IsClient};
+    ghost use Rattle.tcp_rules.specs.Limits.{IsClientEnd};
 
     ghost Value = { ClientFields };
 
@@ -40,7 +40,7 @@ impl Model for Client {
 
     ghost view = { client_view };
 
-    ghost invariant = { λ c. IsClient (client_view c) };
+    ghost invariant = { λ c. IsClientEnd (client_view c) };
 
     ghost inverse = { client_inside };
 }
@@ -51,7 +51,7 @@ impl Client {
     ghost use Rattle.tcp_rules.specs.Clients.{ClientFields, client_ack, client_fin, client_data, first_segment, timing_at_send, advanced, deadline_at, with_deadline, opened};
     ghost use Rattle.tcp_rules.specs.Clients.{edge, data_stop, data_count, data_sent, fin_sent, sent, synchronized, at_syn_ack, acknowledged, at_new_ack, is_duplicate};
     ghost use Rattle.tcp_rules.specs.Clients.{at_duplicate, at_ack, hears, heard, at_last_fin, at_fin, at_plain, at_opening, at_later, client_segment};
-    ghost use Rattle.tcp_rules.specs.Limits.{IsClient};
+    ghost use Rattle.tcp_rules.specs.Limits.{IsClientEnd};
     ghost use Rattle.tcp_rules.specs.Clients.{fin_acknowledged, client_closed, window_after_timeout, retransmitted, at_client_timeout, client_timeout};
 
     /// A client that has sent its SYN at `now`, for so many bytes.
@@ -662,7 +662,7 @@ impl Client {
 
     /// Tells a proof that the fields are in their ranges.
     pub(crate) fn known(&self)
-        ensures { IsClient self.now }
+        ensures { IsClientEnd self.now }
     {
         let _state = self.state;
     }

@@ -29,7 +29,7 @@ pub(crate) struct Server {
 
 impl Model for Server {
     ghost use Rattle.tcp_rules.specs.Servers.{ServerFields};
-    ghost use Rattle.tcp_rules.specs.Limits.{IsServer};
+    ghost use Rattle.tcp_rules.specs.Limits.{IsServerEnd};
 
     ghost Value = { ServerFields };
 
@@ -37,7 +37,7 @@ impl Model for Server {
 
     ghost view = { server_view };
 
-    ghost invariant = { λ s. IsServer (server_view s) };
+    ghost invariant = { λ s. IsServerEnd (server_view s) };
 }
 
 impl Server {
@@ -45,7 +45,7 @@ impl Server {
     ghost use Rattle.tcp_rules.specs.Segments.{IsTimedTcp};
     ghost use Rattle.tcp_rules.specs.Servers.{server_syn_ack, server_ack, server_fin, hole, listened, fits, keeping, moved, finishing, at_end, at_kept, at_data};
     ghost use Rattle.tcp_rules.specs.Servers.{opening, established, at_start, server_closed, at_last, server_segment, server_last, waiting, server_timeout};
-    ghost use Rattle.tcp_rules.specs.Limits.{IsServer};
+    ghost use Rattle.tcp_rules.specs.Limits.{IsServerEnd};
 
     /// A server that has accepted a client's SYN at `now`.
     #[tactic(auto, unfolding(tcp_rules::specs::Servers::listened))]
@@ -371,7 +371,7 @@ impl Server {
 
     /// Tells a proof that the fields are in their ranges.
     pub(crate) fn known(&self)
-        ensures { IsServer self.now }
+        ensures { IsServerEnd self.now }
     {
         let _state = self.state;
     }

@@ -1,6 +1,5 @@
 use Rattle.std.proofs.Common.{rules}
 use Rattle.std.proofs.lemmas.Fn.{filter_same}
-use Rattle.tcp_session.specs.Rising.{IsRising}
 use Rattle.tcp_session.proofs.Scanning.{beyond_rises}
 use Rattle.tcp_session.proofs.ranges.keep_beyond.Goals as goal
 

@@ -1,8 +1,6 @@
 use Rattle.std.proofs.Common.{◌≡◌, ℕ, List, length, nat_lt, unwrap_or, sym, ◌∙◌, ap}
 use Rattle.std.specs.List.{position, insert}
 use Rattle.tcp_rules.specs.declared.records.Range.{Range}
-use Rattle.tcp_rules.specs.Servers.{placed}
-use Rattle.tcp_session.specs.Rising.{IsRising}
 use Rattle.tcp_session.proofs.Scanning.{placed_inserts, placed_rises}
 use Rattle.tcp_session.proofs.ranges.place.Goals as goal
 

@@ -1,4 +1,4 @@
-use Rattle.std.proofs.Common.{◌≡◌, ◌+◌, ◌-◌, ◌<◌, ◌≤◌, vec_len, vec_capacity}
+use Rattle.std.proofs.Common.{◌≡◌, ◌+◌, ◌<◌, ◌≤◌, vec_len, vec_capacity}
 use Rattle.tcp_session.proofs.DataLoop.{IsDataLoop}
 use Rattle.tcp_session.proofs.client.Client.send_data.Given as goal
 

@@ -1,4 +1,4 @@
-use Rattle.std.proofs.Common.{◌≡◌, ap, arith, ◌∙◌}
+use Rattle.std.proofs.Common.{ap, arith}
 use Rattle.tcp_clock.specs.Congestion.{Window, first_window}
 use Rattle.tcp_session.proofs.Scanning.{segments_sized}
 use Rattle.tcp_session.proofs.client.Client.synchronize.Goals as goal
