@@ -13,16 +13,10 @@ use Rattle.ssf_model.specs.declared.plan.Plan.{Plan}
 use Rattle.ssf_model.specs.Wake.{HasTimer}
 use Rattle.ssf_model.specs.Reaction.{Reaction, Validity, LatestTime, LongestDelay, Each, channels_named}
 use Rattle.ssf_model.specs.Entities.{IsValidEntity}
-use Rattle.ssf_model.specs.Run.{States, IsOnChannel, machine_of, opening, run_event, world_after}
+use Rattle.ssf_model.specs.Run.{States, IsOnChannel, MostCount, MostTicket, machine_of, opening, run_event, world_after}
 use Rattle.run_health.specs.Groups.{IsWriterOn}
 
--- the greatest count and the greatest ticket of an opening, and the most writes of one event on one channel
-abbrev pub MostCount : ℕ
-MostCount = 5000000000000000000
-
-abbrev pub MostTicket : ℕ
-MostTicket = 1000000000000000000
-
+-- the most writes of one event on one channel, ends of waits with them
 abbrev pub MostSent : ℕ
 MostSent = 4456448
 
