@@ -16,9 +16,9 @@ use Rattle.ssf_model.specs.declared.plan.Plan.{Plan}
 use Rattle.ssf_model.specs.Reaction.{Reaction, Validity, KeepsValid, LatestTime, Each}
 use Rattle.ssf_model.specs.Deliver.{IsModest}
 use Rattle.ssf_model.specs.Channels.{Sent, sent, delivered_to, entity_after, sent_by, counted}
-use Rattle.ssf_model.specs.Run.{States, Fits, counts_of, acts_at, writes_at, machine_of, opening, timers_of}
+use Rattle.ssf_model.specs.Run.{MostTicket, States, Fits, counts_of, acts_at, writes_at, machine_of, opening, timers_of}
 use Rattle.global_list.specs.Pending.{key_of}
-use Rattle.run_health.specs.Healthy.{MostEvents, MostTicket, IsHealthy, spent_by}
+use Rattle.run_health.specs.Healthy.{MostEvents, IsHealthy, spent_by}
 use Rattle.ssf_model.proofs.Lists.{each_all, each_of, place_of}
 use Rattle.run_health.proofs.Delivers.{given_timely}
 use Rattle.run_health.proofs.Writers.{writer_low}

@@ -15,11 +15,11 @@ use Rattle.ssf_model.specs.declared.plan.Plan.{Plan}
 use Rattle.ssf_model.specs.Reaction.{Reaction, Validity, KeepsValid, LatestTime, LongestDelay, Each}
 use Rattle.ssf_model.specs.Deliver.{IsModest}
 use Rattle.ssf_model.specs.Channels.{Sent, sent_by}
-use Rattle.ssf_model.specs.Run.{States, acts_at, writes_at, machine_of, opening, world_after, run_event, Fits}
+use Rattle.ssf_model.specs.Run.{MostTicket, States, acts_at, writes_at, machine_of, opening, world_after, run_event, Fits}
 use Rattle.run_health.specs.Groups.{IsWriterOn}
 use Rattle.run_health.specs.Joined.{IsAligned}
 use Rattle.ssf_model.specs.Channels.{is_on}
-use Rattle.run_health.specs.Healthy.{MostEvents, MostTicket, MostSent, shape, spent_by, IsHealthy}
+use Rattle.run_health.specs.Healthy.{MostEvents, MostSent, shape, spent_by, IsHealthy}
 use Rattle.ssf_model.proofs.Lists.{each_among, each_of, place_of, mapped_length}
 use Rattle.event_order.proofs.Shares.{one_more}
 use Rattle.run_health.proofs.Healths.{IsSpending, healthy_step, few_sent, fine_sent}

@@ -6,8 +6,8 @@ use Rattle.ssf_model.specs.declared.entity.Entity.{Entity}
 use Rattle.ssf_model.specs.declared.plan.Plan.{Plan}
 use Rattle.ssf_model.specs.Reaction.{Validity, Each}
 use Rattle.ssf_model.specs.Entities.{IsValidEntity}
-use Rattle.ssf_model.specs.Run.{opening, IsProcessOf, IsPending, Fits}
-use Rattle.run_health.specs.Healthy.{MostTicket, IsWaiting, IsHealthyEntity, IsHealthyEvent, IsHealthy}
+use Rattle.ssf_model.specs.Run.{MostTicket, opening, IsProcessOf, IsPending, Fits}
+use Rattle.run_health.specs.Healthy.{IsWaiting, IsHealthyEntity, IsHealthyEvent, IsHealthy}
 use Rattle.ssf_model.proofs.Lists.{each_get, each_among, each_of}
 
 each_count : (most : ℕ) (xs : List ℕ) (c : ℕ) → Each (λ x. x ≤ most) xs → get_or xs c 0 ≤ most

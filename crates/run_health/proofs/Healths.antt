@@ -18,10 +18,10 @@ use Rattle.ssf_model.specs.Reaction.{Reaction, Validity, KeepsValid, LatestTime,
 use Rattle.ssf_model.specs.Deliver.{IsModest, IsCarried, MostWrites, wake_of, reacted, delivered}
 use Rattle.ssf_model.specs.Drafts.{MostChannels}
 use Rattle.ssf_model.specs.Channels.{Sent, delivered_to, entity_after, sent_by, counted, numbered}
-use Rattle.ssf_model.specs.Run.{States, HasAt, IsEndFor, IsOnChannel, IsMappingOf, IsWired, timers_of}
+use Rattle.ssf_model.specs.Run.{MostTicket, States, HasAt, IsEndFor, IsOnChannel, IsMappingOf, IsWired, timers_of}
 use Rattle.run_health.specs.Groups.{IsWriterOn}
 use Rattle.ssf_model.specs.Channels.{is_on}
-use Rattle.run_health.specs.Healthy.{MostTicket, MostSent, Shape, shape, timer_at, IsHealthyEntity, IsHealthyEvent, IsHealthy}
+use Rattle.run_health.specs.Healthy.{MostSent, Shape, shape, timer_at, IsHealthyEntity, IsHealthyEvent, IsHealthy}
 use Rattle.ssf_model.proofs.Lists.{different, each_among, each_of, get_set_own, get_set_other, at_mapped, mapped_length, map_set, within_of, count_cons}
 use Rattle.ssf_model.proofs.Counts.{counted_is, numbered_is, numbered_told, none_sent}
 use Rattle.run_health.proofs.Delivers.{AllMoved, IsMoved, IsGivenBy, IsGiven, IsMade, IsOnOwn, given_timely, admits_from, Outcomes, outcomes}
