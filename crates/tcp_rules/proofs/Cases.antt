@@ -1,5 +1,5 @@
 -- Cases of tests, and lists of acts and segments.
-use Rattle.std.proofs.Common.{◌≡◌, Bool, true, false, ◌&&◌, List, [], ◌∷◌, ◌++◌, refl, ap, subst, sym, if◌then◌else◌}
+use Rattle.std.proofs.Common.{◌≡◌, ◌⊎◌, ℕ, ◌<◌, ◌≤◌, Bool, true, false, ◌&&◌, List, [], ◌∷◌, ◌++◌, refl, ap, subst, sym, arith, if◌then◌else◌}
 use Rattle.sim_base.specs.SegmentFields.{SegmentFields}
 use Rattle.tcp_rules.specs.declared.records.Act.{Act}
 use Rattle.tcp_rules.specs.declared.records.Act.TheVariants.{Entered, Delivered, Send}
@@ -31,3 +31,6 @@ sent_of-append (Send segment ∷ xs) ys = ap (λ (ss : List SegmentFields). segm
 -- what holds of what two lists of acts send holds of what both send
 pub each_sent : (P : SegmentFields → Type 0) (xs ys : List Act) → Each P (sent_of xs) → Each P (sent_of ys) → Each P (sent_of (xs ++ ys))
 each_sent P xs ys h k = subst (λ (ss : List SegmentFields). Each P ss) (sym (sent_of-append xs ys)) (each_append P (sent_of xs) (sent_of ys) h k)
+
+pub before_or_from : (m n : ℕ) → (m < n) ⊎ (n ≤ m)
+before_or_from m n = grind arith

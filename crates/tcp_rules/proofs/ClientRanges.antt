@@ -19,6 +19,7 @@ use Rattle.tcp_rules.specs.Clients.{ClientFields, client_ack, client_fin, client
 use Rattle.tcp_rules.specs.Limits.{IsClientEnd}
 use Rattle.tcp_rules.proofs.Cases.{if_case, both_left, both_right, sent_of-append, each_sent}
 use Rattle.tcp_rules.proofs.Holes.{either_is}
+use Rattle.tcp_rules.proofs.Sending.{stop_within}
 
 -- Segments.
 pub own_most : (config : TcpConfig) → IsTimedTcp config → own_window config ≤ 2 ^ 32
@@ -99,9 +100,6 @@ following_turn m n acts t first few turn = record {
     few_of m n xs ys h k =
         let all = ap (λ (ss : List SegmentFields). length ss) (sent_of-append xs ys) in
         omega (arith, all, length-append (sent_of xs) (sent_of ys))
-
-more_turn : (m n : ℕ) (t : Turn ClientFields) → m ≤ n → IsClientTurn m t → IsClientTurn n t
-more_turn m n t le turn = let few = turn.few in record { client = turn.client; segments = turn.segments; few = omega arith }
 
 -- Sending.
 measured_ranged : (rto : Timeout) (now : ℕ) (timed : Option Timing) → IsTimeout rto → IsTimeout (measured rto now timed)
@@ -196,12 +194,6 @@ fin_turn now c is = if_case (IsClientTurn 1) (nat_eq c.nxt c.end)
     })
     (λ e. quiet_turn 1 c is)
 
-stop_within : (c : ClientFields) → c.nxt < data_stop c → data_stop c ≤ c.end
-unfolding data_stop
-stop_within c = if_case (λ stop. c.nxt < stop → stop ≤ c.end) (nat_le c.end (edge c))
-    (λ e more. omega arith)
-    (λ e more. let beyond : edge c < c.end = grind (arith, nat_tests) in omega arith)
-
 -- what data takes is allowed
 stop_allowed : (c : ClientFields) → c.una ≤ c.nxt → data_stop c ≤ c.nxt + allowed c
 unfolding data_stop edge
@@ -267,7 +259,8 @@ connected_turn config bytes now is few =
     record { client = opened_ranged config bytes now is few; segments = (syn_is config is, tt); few = omega arith }
 
 -- The peer's SYN.
-sized : (own offered mss : ℕ) → mss ≡ max 1 (min own offered) → 1 ≤ own → (nat_le offered mss || nat_eq mss own) ≡ true
+-- segments are of the own size, or the peer's window is no greater than one
+pub sized : (own offered mss : ℕ) → mss ≡ max 1 (min own offered) → 1 ≤ own → (nat_le offered mss || nat_eq mss own) ≡ true
 sized own offered mss is some = grind (arith, nat_tests)
 
 synchronized_ranged : (c : ClientFields) (s : SegmentFields) (now : ℕ) → IsSegment s → IsClientEnd c → IsClientEnd (synchronized c s now)

@@ -4,7 +4,7 @@ use Rattle.std.specs.List.{list_any}
 use Rattle.std.proofs.lemmas.Bool.Decides.{nat_tests, eqb_tells}
 use Rattle.tcp_rules.specs.declared.records.Range.{Range}
 use Rattle.tcp_rules.specs.Servers.{holds, covers, is_within, placed, added, furthest, first_unmarked_at, first_unmarked, hole, IsHole, beyond}
-use Rattle.tcp_rules.proofs.Cases.{if_case, both_left, both_right}
+use Rattle.tcp_rules.proofs.Cases.{before_or_from, if_case, both_left, both_right}
 
 mark_case : (P : ℕ → Type 0) (b : Bool) (later : ℕ → ℕ) (p : ℕ) → (b ≡ true → P (later (p + 1))) → (b ≡ false → P p) → P (first_unmarked_at b later p)
 mark_case P true later p h k = h refl
@@ -148,16 +148,13 @@ clash : (b : Bool) → b ≡ true → b ≡ false → ⊥
 clash b h k = cc
 
 pub one_hole : (rs : List Range) (p h k : ℕ) → IsHole rs p h → IsHole rs p k → h ≡ k
-one_hole rs p h k at there = elim (before_or_after h k) [
+one_hole rs p h k at there = elim (before_or_from h k) [
   | inl w ↦ absurd (clash (covers rs h) (there.passed h at.low w) at.stops)
-  | inr w ↦ elim (before_or_after k h) [
+  | inr w ↦ elim (before_or_from k h) [
     | inl v ↦ absurd (clash (covers rs k) (at.passed k there.low v) there.stops)
     | inr v ↦ omega arith
   ]
 ]
-  where
-    before_or_after : (m n : ℕ) → (m < n) ⊎ (n ≤ m)
-    before_or_after m n = grind arith
 
 -- Greatest ends.
 pub furthest_placed : (r : Range) (ks : List Range) → furthest (placed r ks) ≡ max r.to (furthest ks)

@@ -1,5 +1,5 @@
 -- What a server passes lies in the segments that came to it, and within the client's data.
-use Rattle.std.proofs.Common.{◌≡◌, ◌⊎◌, ℕ, zero, suc, ◌+◌, ◌-◌, ◌<◌, ◌≤◌, Bool, true, false, ◌&&◌, Option, Some, None, List, [], ◌∷◌, ◌++◌, nat_lt, nat_le, refl, sym, ◌∙◌, ap, subst, inl, inr, arith, if◌then◌else◌}
+use Rattle.std.proofs.Common.{◌≡◌, ℕ, zero, suc, ◌+◌, ◌-◌, ◌<◌, ◌≤◌, Bool, true, false, ◌&&◌, Option, Some, None, List, [], ◌∷◌, ◌++◌, nat_lt, nat_le, refl, sym, ◌∙◌, ap, subst, inl, inr, arith, if◌then◌else◌}
 use Rattle.std.proofs.lemmas.Bool.{eqb-true}
 use Rattle.std.proofs.lemmas.Bool.Decides.{nat_tests, eqb_tells}
 use Rattle.sim_base.specs.declared.records.TcpState.{TcpState}
@@ -9,7 +9,7 @@ use Rattle.tcp_rules.specs.declared.records.Act.TheVariants.{Send}
 use Rattle.tcp_rules.specs.Segments.{Turn, quiet, carries, data_of, is_ack_of, sent_of, Each}
 use Rattle.tcp_rules.specs.Servers.{ServerFields, server_syn_ack, server_fin, holds, covers, hole, fits, kept_with, fin_with, keeping, moved, told, finishing, at_end, at_kept, at_data, established, at_start, server_closed, at_last, server_at, server_segment, server_last, waiting, server_timeout}
 use Rattle.tcp_rules.specs.Transfers.{LiesIn, LiesAmong, HoldsOnly, IsAmong}
-use Rattle.tcp_rules.proofs.Cases.{if_case, both_left, both_right, each_sent}
+use Rattle.tcp_rules.proofs.Cases.{before_or_from, if_case, both_left, both_right, each_sent}
 use Rattle.tcp_rules.proofs.Holes.{hole_low, hole_passes, covers_beyond, split_cover}
 use Rattle.tcp_rules.proofs.Sending.{IsProper, AtMost}
 
@@ -75,9 +75,6 @@ module _ (first : ℕ) (xs : List SegmentFields) where
     keeps = λ p held. only.keeps p (covers_beyond (hole s.kept s.rcv) s.kept p held);
     fin = only.fin;
   }
-    where
-      before_or_from : (p n : ℕ) → (p < n) ⊎ (n ≤ p)
-      before_or_from p n = grind arith
 
   only_finishing : (s : ServerFields) (now : ℕ) → s.fin ≡ Some s.rcv → HoldsOnly first xs s → HoldsOnly first xs (finishing s now)
   only_finishing s now there only = record {

@@ -31,6 +31,13 @@ abbrev pub AtMost : ℕ → Option ℕ → Type 0
 AtMost most None = Unit {0}
 AtMost most (Some ack) = ack ≤ most
 
+-- data stops within the client's bytes
+pub stop_within : (c : ClientFields) → c.nxt < data_stop c → data_stop c ≤ c.end
+unfolding data_stop
+stop_within c = if_case (λ stop. c.nxt < stop → stop ≤ c.end) (nat_le c.end (edge c))
+    (λ e more. omega arith)
+    (λ e more. let beyond : edge c < c.end = grind (arith, nat_tests) in omega arith)
+
 module _ (end iss most : ℕ) where
   good_quiet : (c : ClientFields) → IsHeld end iss most c → IsGood end iss most (quiet c)
   good_quiet c held = record { held = held; proper = tt }
@@ -67,13 +74,6 @@ module _ (end iss most : ℕ) where
             (λ k. (proper_fin c held.end_is, tt)) (λ k. (proper_fin c held.end_is, tt));
       })
       (λ e. good_quiet c held)
-
-  -- data stops within the client's bytes
-  stop_within : (c : ClientFields) → c.nxt < data_stop c → data_stop c ≤ c.end
-  unfolding data_stop
-  stop_within c = if_case (λ stop. c.nxt < stop → stop ≤ c.end) (nat_le c.end (edge c))
-      (λ e more. omega arith)
-      (λ e more. let beyond : edge c < c.end = grind (arith, nat_tests) in omega arith)
 
   good_sent : (now : ℕ) (c : ClientFields) → IsHeld end iss most c → IsGood end iss most (sent now c)
   unfolding sent

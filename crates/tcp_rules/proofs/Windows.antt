@@ -6,10 +6,7 @@ use Rattle.tcp_rules.specs.declared.records.Act.TheVariants.{Send}
 use Rattle.tcp_rules.specs.Segments.{quiet, before}
 use Rattle.tcp_rules.specs.Clients.{ClientFields, client_data, advanced, allowed, edge, data_stop, data_count, data_sent, data_out, next_length, may_send, sent_next}
 use Rattle.tcp_rules.specs.Limits.{IsClientEnd}
-use Rattle.tcp_rules.proofs.Cases.{if_case, both_left, both_right}
-
-before_or_from : (m n : ℕ) → (m < n) ⊎ (n ≤ m)
-before_or_from m n = grind arith
+use Rattle.tcp_rules.proofs.Cases.{before_or_from, if_case, both_left, both_right}
 
 -- one segment less is left after one
 pieces : (left mss : ℕ) → 1 ≤ mss → 0 < left → (left + (mss - 1)) / mss ≡ suc ((left - min mss left + (mss - 1)) / mss)

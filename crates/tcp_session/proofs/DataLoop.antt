@@ -1,5 +1,5 @@
 -- Sending segments of data one by one.
-use Rattle.std.proofs.Common.{◌≡◌, ℕ, suc, ◌+◌, ◌-◌, ◌<◌, List, [], ◌∷◌, ◌++◌, refl, sym, ◌∙◌, ap, arith, append_assoc}
+use Rattle.std.proofs.Common.{◌≡◌, ℕ, suc, ◌+◌, ◌-◌, ◌<◌, List, ◌++◌, refl, sym, ◌∙◌, ap, arith, append_assoc}
 use Rattle.tcp_rules.specs.declared.records.Act.{Act}
 use Rattle.tcp_rules.specs.Clients.{ClientFields, data_sent}
 
@@ -7,11 +7,6 @@ use Rattle.tcp_rules.specs.Clients.{ClientFields, data_sent}
 pub record IsDataLoop (count stop now : ℕ) (first : ClientFields) (before : List Act) (done : ℕ) (c : ClientFields) (said : List Act) : Type 0 where
   pub client : (data_sent (count - done) stop now c).after ≡ (data_sent count stop now first).after
   pub acts : said ++ (data_sent (count - done) stop now c).acts ≡ before ++ (data_sent count stop now first).acts
-
-pub data_loop_first : (count stop now : ℕ) (c : ClientFields) (acts : List Act) → IsDataLoop count stop now c acts 0 c acts
-data_loop_first count stop now c acts =
-    let all : count - 0 ≡ count = omega arith in
-    record { client = ap (λ n. (data_sent n stop now c).after) all; acts = ap (λ n. acts ++ (data_sent n stop now c).acts) all }
 
 one_more : (rest count stop now : ℕ) (first : ClientFields) (before : List Act) (done : ℕ) (c : ClientFields) (acts : List Act)
     → count - done ≡ suc rest → count - (done + 1) ≡ rest → IsDataLoop count stop now first before done c acts
@@ -32,15 +27,3 @@ pub data_loop_next : (count stop now : ℕ) (first : ClientFields) (before : Lis
 data_loop_next count stop now first before done c acts more loop =
     let here : count - done ≡ suc (count - (done + 1)) = omega arith in
     one_more (count - (done + 1)) count stop now first before done c acts here refl loop
-
-pub data_loop_last : (count stop now : ℕ) (first : ClientFields) (before : List Act) (done : ℕ) (c : ClientFields) (acts : List Act)
-    → count - done ≡ 0 → IsDataLoop count stop now first before done c acts
-    → (c ≡ (data_sent count stop now first).after) × (acts ≡ before ++ (data_sent count stop now first).acts)
-data_loop_last count stop now first before done c acts over loop = (
-  ap (λ n. (data_sent n stop now c).after) (sym over) ∙ loop.client,
-  nothing acts ∙ (ap (λ n. acts ++ (data_sent n stop now c).acts) (sym over) ∙ loop.acts),
-)
-  where
-    nothing : (xs : List Act) → xs ≡ xs ++ []
-    nothing [] = refl
-    nothing (x ∷ xs) = ap (λ (ys : List Act). x ∷ ys) (nothing xs)

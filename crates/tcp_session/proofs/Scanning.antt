@@ -1,10 +1,10 @@
 -- Lists of ranges in order of their beginnings, and one scan of them.
-use Rattle.std.proofs.Common.{◌≡◌, ◌⊎◌, ℕ, zero, suc, ◌+◌, ◌<◌, ◌≤◌, Bool, true, false, not, ◌||◌, max, min, nat_eq, nat_lt, nat_le, List, [], ◌∷◌, length, drop, refl, sym, ◌∙◌, ap, arith, inl, inr, if◌then◌else◌, cond, unwrap_or, Some, None, get_or, drop-cons}
+use Rattle.std.proofs.Common.{◌≡◌, ℕ, zero, suc, ◌+◌, ◌<◌, ◌≤◌, Bool, true, false, not, max, nat_lt, List, [], ◌∷◌, length, drop, refl, sym, ◌∙◌, ap, arith, inl, inr, if◌then◌else◌, cond, unwrap_or, Some, None, get_or, drop-cons}
 use Rattle.std.specs.List.{position, position_or_len, prefix_len, insert}
 use Rattle.std.proofs.lemmas.Bool.Decides.{nat_tests}
 use Rattle.tcp_rules.specs.declared.records.Range.{Range}
 use Rattle.tcp_rules.specs.Servers.{holds, covers, placed, hole, IsHole, beyond}
-use Rattle.tcp_rules.proofs.Cases.{if_case}
+use Rattle.tcp_rules.proofs.Cases.{before_or_from, if_case}
 use Rattle.tcp_rules.proofs.Holes.{hole_is, one_hole, neither, not_held, not_yet_held, either}
 use Rattle.tcp_session.specs.Rising.{RiseFrom, IsRising}
 
@@ -81,15 +81,12 @@ reach_is least (r ∷ rs) p rise = if_case (IsHole (r ∷ rs) p) (nat_lt p r.fro
     let low = rest.low in
     record {
       low = omega arith;
-      passed = λ q from to. elim (before_or_after q r.to) [
+      passed = λ q from to. elim (before_or_from q r.to) [
         | inl w ↦ either (holds r q) (covers rs q) (inl (held_at r q (omega arith) w))
         | inr w ↦ either (holds r q) (covers rs q) (inr (rest.passed q (omega arith) to))
       ];
       stops = neither (holds r (reach (max p r.to) rs)) (covers rs (reach (max p r.to) rs)) (not_held r (reach (max p r.to) rs) (omega arith)) rest.stops;
     })
-  where
-    before_or_after : (m n : ℕ) → (m < n) ⊎ (n ≤ m)
-    before_or_after m n = grind arith
 
 -- one scan finds the hole
 pub reach_is_hole : (rs : List Range) (p : ℕ) → IsRising rs → reach p rs ≡ hole rs p
@@ -114,8 +111,3 @@ scan_stops rs p q i d rise so_far there early = sym (reach_here i q rs d there e
 
 pub scan_ends : (rs : List Range) (p q i : ℕ) → IsRising rs → reach p rs ≡ reach q (drop i rs) → length rs ≤ i → q ≡ hole rs p
 scan_ends rs p q i rise so_far over = sym (reach_end i q rs over) ∙ (sym so_far ∙ reach_is_hole rs p rise)
-
--- where a segment is of the least of the own size and the peer's window, it is of the own size or no
--- smaller than the window
-pub segments_sized : (mss own offered : ℕ) → mss ≡ max 1 (min own offered) → 1 ≤ own → (nat_le offered mss || nat_eq mss own) ≡ true
-segments_sized mss own offered is some = grind (arith, nat_tests)

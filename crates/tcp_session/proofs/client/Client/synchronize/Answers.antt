@@ -1,6 +1,6 @@
 use Rattle.std.proofs.Common.{ap, arith}
 use Rattle.tcp_clock.specs.Congestion.{Window, first_window}
-use Rattle.tcp_session.proofs.Scanning.{segments_sized}
+use Rattle.tcp_rules.proofs.ClientRanges.{sized}
 use Rattle.tcp_session.proofs.client.Client.synchronize.Goals as goal
 
 pub invariant_of-self : goal.invariant_of-self
@@ -21,7 +21,7 @@ invariant_of-self c =
       end = c.self.invariant.end;
       rcv = omega arith;
       peer = c.segment.invariant.window;
-      segments = segments_sized c.new-window.result.mss c.self.inside.config.mss c.segment.inside.window (omega arith) some;
+      segments = sized c.self.inside.config.mss c.segment.inside.window c.new-window.result.mss (omega arith) some;
       tries = omega arith;
       duplicates = c.self.invariant.duplicates;
     }
