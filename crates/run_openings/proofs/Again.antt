@@ -1,8 +1,9 @@
 -- A plan that opens where a run of it stood has the world of that run, and goes on from it.
-use Rattle.std.proofs.Common.{◌≡◌, ℕ, zero, suc, ◌+◌, ◌<◌, ◌≤◌, Bool, List, [], ◌∷◌, ◌++◌, map, length, refl, sym, ap, ◌∙◌, subst, inl, inr, arith, Option, Some, None, slice_get, get_or}
+use Rattle.std.proofs.Common.{◌≡◌, ℕ, zero, suc, ◌+◌, ◌≤◌, Bool, List, [], ◌∷◌, ◌++◌, map, length, refl, sym, ap, ◌∙◌, subst, inl, inr, arith, Option, Some, None, slice_get, get_or, length-append, zero-add, suc-add, append-nil, append_assoc}
 use Rattle.std.specs.List.{range_with_len}
+use Rattle.std.proofs.lemmas.List.FromFn.{get_or-map-range_with_len, length-map-range_with_len}
 use Rattle.event_order.specs.declared.key.Key.{Key}
-use Rattle.event_order.specs.Machine.{World, after, due}
+use Rattle.event_order.specs.Machine.{Machine, World, after, due, first_events, option_list}
 use Rattle.event_order.proofs.Steps.{step_cases, lt_or_ge}
 use Rattle.event_order.proofs.Continuing.{goes_on}
 use Rattle.ssf_model.specs.declared.event.Event.{Event}
@@ -12,8 +13,8 @@ use Rattle.ssf_model.specs.declared.plan.Plan.{Plan}
 use Rattle.ssf_model.specs.Reaction.{Reaction, Validity, KeepsValid, LatestTime, wait_of}
 use Rattle.ssf_model.specs.Deliver.{IsModest}
 use Rattle.ssf_model.specs.Channels.{sent_by}
-use Rattle.ssf_model.specs.Run.{States, Fits, acts_at, counts_of, machine_of, opening, run_event, run_entries, entries_from, world_after}
-use Rattle.ssf_model.specs.Openings.{opened_of, reopened_entity, reopened_entities, reopened_processes}
+use Rattle.ssf_model.specs.Run.{States, Fits, acts_at, counts_of, machine_of, opening, run_event, run_events, run_entries, entries_from, world_after}
+use Rattle.ssf_model.specs.Openings.{opened_of, opening_of, opening_after, reopened_entity, reopened_entities, reopened_processes}
 use Rattle.ssf_model.proofs.Counts.{counted_is, none_sent}
 use Rattle.run_laws.proofs.Continuing.{entries_go_on}
 use Rattle.run_health.specs.Groups.{IsWriterOn}
@@ -56,16 +57,6 @@ module _ {B S P : Type 0} where
 
 -- ---- counts as a list and as a function
 
-read_inside : (f : ℕ → ℕ) (first n c : ℕ) → c < n → get_or (map f (range_with_len first n)) c 0 ≡ f (first + c)
-read_inside f first zero c l = absurd (omega arith)
-read_inside f first (suc n) zero l = ap f (omega arith)
-read_inside f first (suc n) (suc c) l = read_inside f (first + 1) n c (omega arith) ∙ ap f (omega arith)
-
-read_outside : (f : ℕ → ℕ) (first n c : ℕ) → n ≤ c → get_or (map f (range_with_len first n)) c 0 ≡ 0
-read_outside f first zero c l = refl
-read_outside f first (suc n) zero l = absurd (omega arith)
-read_outside f first (suc n) (suc c) l = read_outside f (first + 1) n c (omega arith)
-
 none_outside : (xs : List ℕ) (c : ℕ) → length xs ≤ c → get_or xs c 0 ≡ 0
 none_outside [] c l = refl
 none_outside (x ∷ xs) zero l = absurd (omega arith)
@@ -74,9 +65,21 @@ none_outside (x ∷ xs) (suc c) l = none_outside xs c (omega arith)
 -- a function that is 0 from n on is its first n values read as counts
 counts_back : (f : ℕ → ℕ) (n : ℕ) → ((c : ℕ) → n ≤ c → f c ≡ 0) → (c : ℕ) → counts_of (map f (range_with_len 0 n)) c ≡ f c
 counts_back f n over c = elim (lt_or_ge c n) [
-  | inl inside ↦ read_inside f 0 n c inside ∙ ap f (omega arith)
-  | inr outside ↦ read_outside f 0 n c outside ∙ sym (over c outside)
+  | inl inside ↦ get_or-map-range_with_len f 0 n c c 0 inside (omega arith)
+  | inr outside ↦ none_outside (map f (range_with_len 0 n)) c (omega (arith, length-map-range_with_len f 0 n)) ∙ sym (over c outside)
 ]
+
+-- ---- the events of a run that goes on
+
+first_go_on : {X E : Type 0} (m : Machine X E) (until : ℕ) (kept : Key → Bool) (w : World X E) (n k : ℕ) →
+    first_events m until kept w (k + n) ≡ first_events m until kept w n ++ first_events m until kept (after m until kept w n) k
+first_go_on m until kept w n zero = rw (zero-add, append-nil) refl
+first_go_on {X} {E} m until kept w n (suc k) =
+    let v = after m until kept w n in
+    let next : World X E → List E = λ u. option_list (due m.key until u.pending) in
+    rw suc-add (ap (λ (es : List E). es ++ next (after m until kept w (k + n))) (first_go_on m until kept w n k)
+    ∙ (append_assoc (first_events m until kept w n) (first_events m until kept v k) (next (after m until kept w (k + n)))
+    ∙ ap (λ (u : World X E). first_events m until kept w n ++ (first_events m until kept v k ++ next u)) (goes_on m until kept w n k)))
 
 module _ {B S P : Type 0} (r : Reaction S P) (valid : Validity S) (carried : P → Type 0) (law : KeepsValid valid carried r) (modest : IsModest valid carried r)
     (plan : Plan B S P) (until : ℕ) (in_time : until ≤ LatestTime) (fits : Fits valid carried plan) (kept : Key → Bool) where
@@ -123,16 +126,47 @@ module _ {B S P : Type 0} (r : Reaction S P) (valid : Validity S) (carried : P �
       ap (λ (es : List (Entity B S P)). with_states es (counts_of (map w.state.counts (range_with_len 0 (length plan.counts)))) w.pending) (entities_back plan.entities w.state.entities (shapes_along n))
       ∙ ap (λ (counts : ℕ → ℕ). with_states w.state.entities counts w.pending) (counts_along n)
 
-  -- ---- the run that goes on
+  -- ---- the run that goes on, to any end up to which the first n events are the same
+
+  module _ (later n k : ℕ) (alike : world_after r plan until kept n ≡ world_after r plan later kept n) where
+    pub worlds_from : world_after r (reopened_after r plan until kept n) later kept k ≡ world_after r plan later kept (k + n)
+    worlds_from =
+        ap (λ (w : World (States B S P) (Event P)). after (machine_of r plan.mappings) later kept w k) (same_opening n ∙ alike) ∙ sym (goes_on (machine_of r plan.mappings) later kept (opening plan) n k)
+
+    pub events_from : run_event r (reopened_after r plan until kept n) later kept k ≡ run_event r plan later kept (k + n)
+    events_from = ap (λ (w : World (States B S P) (Event P)). due (machine_of {B = B} r plan.mappings).key later w.pending) worlds_from
+
+    pub entries_from_there : run_entries r plan later kept n ++ run_entries r (reopened_after r plan until kept n) later kept k ≡ run_entries r plan later kept (k + n)
+    entries_from_there =
+        ap (λ (w : World (States B S P) (Event P)). run_entries r plan later kept n ++ entries_from r plan.mappings later kept w k) (same_opening n ∙ alike)
+        ∙ sym (entries_go_on r plan.mappings later kept (opening plan) n k)
 
   pub same_worlds : (n k : ℕ) → world_after r (reopened_after r plan until kept n) until kept k ≡ world_after r plan until kept (k + n)
-  same_worlds n k =
-      ap (λ (w : World (States B S P) (Event P)). after (machine_of r plan.mappings) until kept w k) (same_opening n) ∙ sym (goes_on (machine_of r plan.mappings) until kept (opening plan) n k)
+  same_worlds n k = worlds_from until n k refl
 
   pub same_events : (n k : ℕ) → run_event r (reopened_after r plan until kept n) until kept k ≡ run_event r plan until kept (k + n)
-  same_events n k = ap (λ (w : World (States B S P) (Event P)). due (machine_of {B = B} r plan.mappings).key until w.pending) (same_worlds n k)
+  same_events n k = events_from until n k refl
 
   pub same_entries : (n k : ℕ) → run_entries r plan until kept n ++ run_entries r (reopened_after r plan until kept n) until kept k ≡ run_entries r plan until kept (k + n)
-  same_entries n k =
-      ap (λ (w : World (States B S P) (Event P)). run_entries r plan until kept n ++ entries_from r plan.mappings until kept w k) (same_opening n)
-      ∙ sym (entries_go_on r plan.mappings until kept (opening plan) n k)
+  same_entries n k = entries_from_there until n k refl
+
+  -- ---- its openings
+
+  same_before : (n k : ℕ) → (reopened_after r plan until kept n).before + length (run_events r (reopened_after r plan until kept n) until kept k) ≡ plan.before + length (run_events r plan until kept (k + n))
+  same_before n k =
+      let later : List (Event P) = first_events (machine_of {B = B} r plan.mappings) until kept (world_after r plan until kept n) k in
+      omega (
+        arith,
+        ap (λ (w : World (States B S P) (Event P)). length (first_events (machine_of {B = B} r plan.mappings) until kept w k)) (same_opening n),
+        ap (λ (es : List (Event P)). length es) (first_go_on (machine_of {B = B} r plan.mappings) until kept (opening plan) n k),
+        length-append (run_events r plan until kept n) later,
+      )
+
+  pub same_openings : (n k : ℕ) → opening_after r (reopened_after r plan until kept n) until kept k ≡ opening_after r plan until kept (k + n)
+  same_openings n k =
+      let channels : ℕ = length plan.counts in
+      let again : Plan B S P = reopened_after r plan until kept n in
+      ap (λ (size : ℕ). opening_of size (again.before + length (run_events r again until kept k)) (world_after r again until kept k))
+      (length-map-range_with_len (world_after r plan until kept n).state.counts 0 channels)
+      ∙ (ap (λ (before : ℕ). opening_of channels before (world_after r again until kept k)) (same_before n k)
+      ∙ ap (λ (w : World (States B S P) (Event P)). opening_of channels (plan.before + length (run_events r plan until kept (k + n))) w) (same_worlds n k))

@@ -1,1 +1,4 @@
 pub mod Again
+pub mod Fitting
+pub mod Room
+pub mod Longer
