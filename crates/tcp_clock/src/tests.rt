@@ -64,3 +64,22 @@ fn window_limits(rt: HostRuntime) {
     cwnd.acked(u64::MAX);
     assert_eq!(rt; cwnd.window(), 1 << 30);
 }
+
+/// By another program after the formulas of RFC 6298 and RFC 5681, at 1,000 ticks a second.
+#[test]
+fn as_another_program(rt: HostRuntime) {
+    let mut rto = Rto::new(1_000);
+    for (sample, value) in [(1_500, 4_500), (2_500, 4_873), (900, 4_694), (3_000, 5_553)] {
+        rto.sample(sample);
+        assert_eq!(rt; rto.value(), value);
+    }
+    rto.timeout();
+    assert_eq!(rt; rto.value(), 11_106);
+    rto.sample(2_000);
+    assert_eq!(rt; rto.value(), 4_912);
+    let mut cwnd = Cwnd::new(1_460, 5_840);
+    for want in [2_920, 4_380, 5_840, 6_205, 6_548] {
+        cwnd.acked(1_460);
+        assert_eq!(rt; cwnd.window(), want);
+    }
+}

@@ -1,5 +1,5 @@
 //! Worked examples.
-ghost use Rattle.std.specs.Prelude.{◌≤◌};
+ghost use Rattle.std.specs.Prelude.{◌≤◌, ◌^◌};
 ghost use Rattle.tcp_rules.specs.Segments.{IsTimedTcp};
 
 use crate::network::{Fault, Host, Outcome, run};
@@ -40,6 +40,17 @@ const SYN: (bool, bool) = (true, false);
 const FIN: (bool, bool) = (false, true);
 
 const PLAIN: (bool, bool) = (false, false);
+
+/// Lets the deadline of a session pass.
+fn pass(session: &mut Session, now: u64, out: &mut Segments) -> Result<(), Fail>
+    requires { now ≤ 10 ^ 18 }
+{
+    match session.deadline() {
+        Some(_) => session.timeout(now, out).ok().ok_or("memory")?,
+        None => Err("no deadline")?,
+    }
+    Ok(())
+}
 
 /// 1,500 bytes as the client sees them.
 #[test]
@@ -230,10 +241,128 @@ fn tries(rt: HostRuntime) -> Result<(), Fail> {
             prove!(now <= 511);
             assert_eq!(rt; end.deadline(), Some(now));
             out.clear();
-            end.timeout(now, &mut out).ok().ok_or("memory")?;
+            pass(end, now, &mut out)?;
             assert_eq!(rt; out.acts().len(), 1);
         }
         assert_eq!(rt; (end.state(), end.deadline()), (TcpState::Closed, None));
+    }
+    Ok(())
+}
+
+/// What a client of 5,000 bytes sends at each segment or timeout, and its deadline after it, in
+/// milliseconds: three duplicates and a fast retransmit, a late SYN, an acknowledgment that gives no
+/// sample since the segment was sent twice, a timeout, and an acknowledgment above all that was sent.
+#[test]
+fn losses(rt: HostRuntime) -> Result<(), Fail> {
+    let mut out = Segments::new(rt.alloc());
+    let mut client = Session::connect(&settings(100, 1_000_000_000), 5_000, 0, &mut out)
+        .ok()
+        .ok_or("memory")?;
+    let data = |seq: u16| Act::Send(segment(seq, Some(501), PLAIN, 1_000));
+    let ack = |a: u16| Some(segment(501, Some(a), PLAIN, 0));
+    let syn = Some(segment(500, Some(101), SYN, 0));
+    let fin = Act::Send(segment(5101, Some(501), FIN, 0));
+    let pure = |seq: u16| Act::Send(segment(seq, Some(501), PLAIN, 0));
+    let rows: [(Option<Segment>, u64, &[Act], u64); 11] = [
+        (
+            syn,
+            900,
+            &[Act::Entered(TcpState::Established), pure(101), data(101)],
+            3_600,
+        ),
+        (ack(1101), 1_800, &[data(1101), data(2101)], 4_050),
+        (ack(1101), 1_900, &[], 4_050),
+        (ack(1101), 1_910, &[], 4_050),
+        (ack(1101), 1_920, &[data(1101)], 4_050),
+        (ack(1101), 1_930, &[], 4_050),
+        (syn, 1_940, &[pure(3101)], 4_050),
+        (
+            ack(3101),
+            2_700,
+            &[
+                data(3101),
+                data(4101),
+                Act::Entered(TcpState::FinWait1),
+                fin,
+            ],
+            4_950,
+        ),
+        (None, 4_950, &[data(3101)], 9_450),
+        (ack(4101), 5_000, &[data(4101), fin], 9_500),
+        (ack(5103), 5_100, &[], 9_500),
+    ];
+    for (comes, at, want, due) in rows {
+        out.clear();
+        prove!(at <= 10_000);
+        let now = at * 1_000_000;
+        match comes {
+            Some(came) => client.segment(&came, now, &mut out).ok().ok_or("memory")?,
+            None => pass(&mut client, now, &mut out)?,
+        }
+        assert_eq!(rt; out.acts(), want, "{at}");
+        assert_eq!(rt; client.deadline(), Some(due * 1_000_000), "{at}");
+    }
+    Ok(())
+}
+
+/// What a server answers, and how much it has delivered: a SYN again, data that establishes, data and a
+/// FIN beyond the window, an early FIN, a hole that is filled, and the FIN again.
+#[test]
+fn server_again(rt: HostRuntime) -> Result<(), Fail> {
+    let mut out = Segments::new(rt.alloc());
+    let first = segment(100, None, SYN, 0);
+    let mut server = Session::accept(
+        rt.alloc(),
+        &settings(500, 1_000_000_000),
+        &first,
+        0,
+        &mut out,
+    )
+    .ok()
+    .ok_or("memory")?;
+    let answer = |a: u16| Act::Send(segment(501, Some(a), PLAIN, 0));
+    let syn = Act::Send(segment(500, Some(101), SYN, 0));
+    let fin = Act::Send(segment(501, Some(1602), FIN, 0));
+    let rows: [(Segment, &[Act], u64); 13] = [
+        (first, &[syn], 0),
+        (segment(101, Some(500), PLAIN, 1_000), &[], 0),
+        (
+            segment(101, Some(501), PLAIN, 1_000),
+            &[
+                Act::Entered(TcpState::Established),
+                Act::Delivered(1_000),
+                answer(1101),
+            ],
+            1_000,
+        ),
+        (first, &[], 1_000),
+        (
+            segment(32102, Some(501), PLAIN, 1_000),
+            &[answer(1101)],
+            1_000,
+        ),
+        (segment(33102, Some(501), FIN, 0), &[answer(1101)], 1_000),
+        (segment(1601, Some(501), FIN, 0), &[answer(1101)], 1_000),
+        (segment(1301, Some(501), PLAIN, 300), &[answer(1101)], 1_000),
+        (
+            segment(1101, Some(501), PLAIN, 250),
+            &[Act::Delivered(500), Act::Entered(TcpState::LastAck), fin],
+            1_500,
+        ),
+        (segment(1601, Some(501), FIN, 0), &[fin], 1_500),
+        (segment(1602, Some(501), PLAIN, 0), &[], 1_500),
+        (
+            segment(1602, Some(502), PLAIN, 0),
+            &[Act::Entered(TcpState::Closed)],
+            1_500,
+        ),
+        (segment(1601, Some(501), FIN, 0), &[], 1_500),
+    ];
+    for (comes, want, delivered) in rows {
+        out.clear();
+        server.segment(&comes, 1, &mut out).ok().ok_or("memory")?;
+        assert_eq!(rt; out.acts(), want, "{comes:?}");
+        assert_eq!(rt; server.delivered(), delivered);
     }
     Ok(())
 }

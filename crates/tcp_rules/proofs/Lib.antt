@@ -2,6 +2,7 @@ pub mod Cases
 pub mod ClientRanges
 pub mod Delivering
 pub mod Holes
+pub mod Lasting
 pub mod Receiving
 pub mod Sending
 pub mod ServerRanges

@@ -60,7 +60,9 @@ abbrev pub LiesAmong : ℕ → List SegmentFields → Type 0
 LiesAmong position [] = ⊥
 LiesAmong position (s ∷ ss) = LiesIn position s ⊎ LiesAmong position ss
 
--- what holds after any steps of a transfer of so many bytes from a client whose ISS this is
+-- what holds after any steps of a transfer of so many bytes from a client whose ISS this is: no more is delivered than
+-- the client has; each position that the server no longer waits for lies in a segment that the client sent, where a SYN
+-- and a FIN take one position each; and the client takes nothing for acknowledged that the server still waits for
 pub record IsSound (iss bytes : ℕ) (w : World) : Type 0 where
   pub delivered : w.server.delivered ≤ bytes
   pub sent : (position : ℕ) → iss ≤ position → position < w.server.rcv → LiesAmong position w.from_client

@@ -5,7 +5,7 @@ ghost use Rattle.sim_base.specs.declared.records.TcpConfig.{TcpConfig};
 ghost use Rattle.tcp_rules.specs.declared.records.Range.{Range};
 ghost use Rattle.tcp_rules.specs.Segments.{IsTimedTcp};
 ghost use Rattle.tcp_rules.specs.Clients.{ClientFields, data_out, sent_next};
-ghost use Rattle.tcp_rules.specs.Servers.{ServerFields, accepted, added, covers, hole, holds, IsHole, server_segment, server_timeout};
+ghost use Rattle.tcp_rules.specs.Servers.{ServerFields, accepted, added, beyond, covers, hole, holds, IsHole, server_segment, server_timeout};
 ghost use Rattle.tcp_rules.specs.Sessions.{End, connecting, accepting, at_segment, at_timeout};
 ghost use Rattle.tcp_rules.specs.Limits.{IsClientEnd, IsEnd, IsOrderly};
 ghost use Rattle.tcp_rules.specs.Transfers.{Step, IsSound, HoldsOnly, IsAmong, after_steps, beginning};
@@ -40,6 +40,13 @@ pub fn servers_hold_only_what_came()
     ensures more { (first : ℕ) (gs hs : List SegmentFields) (s : ServerFields) → HoldsOnly first gs s → HoldsOnly first (gs ++ hs) s }
 {}
 
+/// A server never forgets its peer's first position: what it has delivered begins right after it.
+pub fn servers_keep_their_first_position()
+    ensures accepting { (config : TcpConfig) (syn : SegmentFields) (now : ℕ) → (accepted config syn now).after.irs ≡ syn.seq }
+    ensures segment { (s : ServerFields) (g : SegmentFields) (now : ℕ) → (server_segment s g now).after.irs ≡ s.irs }
+    ensures timeout { (s : ServerFields) (now : ℕ) → (server_timeout s now).after.irs ≡ s.irs }
+{}
+
 /// Data goes out while any is left and the next segment of it has room in the windows: first that
 /// segment, and then what may go out after it.
 pub fn data_goes_while_it_may()
@@ -48,8 +55,10 @@ pub fn data_goes_while_it_may()
 
 /// Kept ranges are a set of positions: what is added is held besides what was, and a range that is
 /// added again changes nothing. The hole is the first position from a given one on that is not held.
+/// Forgetting the ranges below a position changes nothing from it on.
 pub fn ranges_are_sets()
     ensures added { (r : Range) (rs : List Range) (p : ℕ) → covers (added r rs) p ≡ (holds r p || covers rs p) }
     ensures again { (r : Range) (rs : List Range) → added r (added r rs) ≡ added r rs }
     ensures hole { (rs : List Range) (p : ℕ) → IsHole rs p (hole rs p) }
+    ensures forgotten { (rs : List Range) (q p : ℕ) → q ≤ p → covers (beyond q rs) p ≡ covers rs p }
 {}

@@ -14,4 +14,4 @@ mod session;
 
 pub use segments::Segments;
 pub use session::Session;
-pub use tcp_rules::{Act, Range, Timing};
+pub use tcp_rules::Act;

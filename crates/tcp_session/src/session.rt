@@ -31,12 +31,12 @@ impl Model for Session {
 }
 
 impl Session {
-    ghost use Rattle.std.specs.Prelude.{◌≡◌, ◌≤◌, ◌^◌, ◌++◌, IfOk, OnOk, OnErr};
+    ghost use Rattle.std.specs.Prelude.{◌≡◌, ◌≤◌, ◌^◌, ◌++◌, IfOk, OnOk, OnErr, IsSome};
     ghost use Rattle.tcp_rules.specs.Segments.{IsTimedTcp};
     ghost use Rattle.tcp_rules.specs.Sessions.{connecting, accepting, at_segment, at_timeout, deadline_of, state_of, delivered_of};
     ghost use Rattle.tcp_rules.specs.Limits.{IsEnd};
 
-    /// Opens a transfer of so many bytes at the tick `now`: sends a SYN.
+    /// Opens a transfer of `bytes` bytes, at most 2^30, at the tick `now`, at most 10^18: sends a SYN.
     ///
     /// # Errors
     /// `Memory`, and then nothing was sent.
@@ -64,7 +64,7 @@ impl Session {
         })
     }
 
-    /// Accepts a client's SYN at the tick `now`: sends a SYN that acknowledges it.
+    /// Accepts a client's SYN at the tick `now`, at most 10^18: sends a SYN that acknowledges it.
     ///
     /// # Errors
     /// `Memory`, and then nothing was sent.
@@ -92,7 +92,7 @@ impl Session {
         })
     }
 
-    /// A segment comes at the tick `now`.
+    /// A segment comes at the tick `now`, at most 10^18.
     ///
     /// # Errors
     /// `Memory`, and then nothing has changed.
@@ -110,12 +110,13 @@ impl Session {
         Ok(())
     }
 
-    /// The deadline passes at the tick `now`.
+    /// The deadline passes at the tick `now`, at most 10^18. The session has one: see [`Session::deadline`].
     ///
     /// # Errors
     /// `Memory`, and then nothing has changed.
     pub fn timeout(&mut self, now: u64, out: &mut Segments) -> Result<(), Memory>
-        requires { now ≤ 10 ^ 18 }
+        requires now { now ≤ 10 ^ 18 }
+        requires timer { IsSome (deadline_of self.old) }
         ensures session { OnOk result (self.new ≡ (at_timeout self.old now).after) }
         ensures acts { OnOk result (out.new ≡ out.old ++ (at_timeout self.old now).acts) }
         ensures same { OnErr result (self.new ≡ self.old) }
