@@ -1,4 +1,4 @@
 use Rattle.list_examples.proofs.timers.listener_plan.Goals as goal
 
-pub returns-clause-runs : goal.returns-clause-runs
-returns-clause-runs c = c.in_ok-plan.ensures.fits
+pub returns-clause-fits : goal.returns-clause-fits
+returns-clause-fits c = c.in_ok-plan.ensures.fits
