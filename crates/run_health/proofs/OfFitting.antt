@@ -87,6 +87,8 @@ module _ {B S P : Type 0} (r : Reaction S P) (valid : Validity S) (carried : P �
           some_time = each_among (IsOnOwn en.out_channels) (delivered_to r e en).writes (TimerWrite w.process w.delay w.ticket)
               (done r valid carried law modest plan fits.wired (spent_all n) x e [] en p.at p.due p.healthy).owned w.written;
           target = from.entity_is ∙ ap (λ (u : Sent P). u.entity) w.is;
+          channel = w.timer ∙ ap (λ (c : ℕ). Some c) (sym (ap (λ (k : Key). k.channel) from.key_is ∙ ap (λ (u : Sent P). u.channel) w.is));
+          priority = ap (λ (k : Key). k.priority) from.key_is ∙ ap (λ (u : Sent P). u.priority) w.is;
           time = sum ∙ ap (λ (u : Sent P). e.key.time + u.delay) w.is;
           kind = from.kind_is ∙ ap (λ (u : Sent P). u.kind) w.is;
         })

@@ -16,7 +16,7 @@ use Rattle.ssf_model.specs.Entities.{IsValidEntity}
 use Rattle.ssf_model.specs.Run.{States, IsOnChannel, MostCount, MostTicket, machine_of, opening, run_event, world_after}
 use Rattle.run_health.specs.Groups.{IsWriterOn}
 
--- the most writes of one event on one channel, ends of waits with them
+-- no event writes more often on one channel: so much is room for the writes of its actions and the ends of its waits
 abbrev pub MostSent : ℕ
 MostSent = 4456448
 

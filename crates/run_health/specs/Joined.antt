@@ -9,7 +9,7 @@ use Rattle.ssf_model.specs.declared.entity.Entity.{Entity}
 use Rattle.ssf_model.specs.declared.plan.Mapping.{Mapping}
 use Rattle.ssf_model.specs.declared.plan.Plan.{Plan}
 use Rattle.ssf_model.specs.Reaction.{Reaction, Each}
-use Rattle.ssf_model.specs.Channels.{delivered_to}
+use Rattle.ssf_model.specs.Channels.{delivered_to, timer_of}
 use Rattle.ssf_model.specs.Run.{States, run_event, world_after}
 
 -- in the state x the event e writes d along a mapping of the plan, which leads from the entity of e to that of d: d
@@ -39,6 +39,8 @@ pub record IsWaitBegun {B S P : Type 0} (r : Reaction S P) (x : States B S P) (e
   pub written : Among (TimerWrite process delay ticket) (delivered_to r e waiter).writes
   pub some_time : 0 < delay
   pub target : d.entity ≡ e.entity
+  pub channel : timer_of (slice_get (delivered_to r e waiter).processes process) ≡ Some d.key.channel
+  pub priority : d.key.priority ≡ 0
   pub time : d.key.time ≡ e.key.time + delay
   pub kind : d.kind ≡ Timer process ticket
 

@@ -1,12 +1,13 @@
 -- What lasts: a server's first position, and what is held from a position on where ranges below it are forgotten.
 use Rattle.std.proofs.Common.{◌≡◌, ℕ, ◌+◌, ◌≤◌, Bool, true, false, ◌||◌, List, [], ◌∷◌, nat_lt, refl, sym, ◌∙◌, ap, arith}
 use Rattle.std.proofs.lemmas.Bool.Decides.{nat_tests}
+use Rattle.sim_base.specs.declared.records.TcpConfig.{TcpConfig}
 use Rattle.sim_base.specs.declared.records.TcpState.{TcpState}
 use Rattle.sim_base.specs.declared.records.TcpState.TheVariants.{SynReceived, Established, LastAck}
 use Rattle.sim_base.specs.SegmentFields.{SegmentFields}
 use Rattle.tcp_rules.specs.declared.records.Range.{Range}
 use Rattle.tcp_rules.specs.Segments.{Turn, carries, is_ack_of}
-use Rattle.tcp_rules.specs.Servers.{ServerFields, holds, covers, beyond, keeping, moved, at_end, at_kept, at_data, established, at_start, at_last, server_at, server_segment, server_timeout}
+use Rattle.tcp_rules.specs.Servers.{ServerFields, accepted, listened, holds, covers, beyond, keeping, moved, at_end, at_kept, at_data, established, at_start, at_last, server_at, server_segment, server_timeout}
 use Rattle.tcp_rules.proofs.Cases.{if_case}
 use Rattle.tcp_rules.proofs.Holes.{not_held}
 
@@ -48,3 +49,7 @@ irs_segment s g now = irs_at s.state s g now
 pub irs_timeout : (s : ServerFields) (now : ℕ) → (server_timeout s now).after.irs ≡ s.irs
 unfolding server_timeout
 irs_timeout s now = if_case (λ (t : Turn ServerFields). t.after.irs ≡ s.irs) (nat_lt s.config.tries (s.tries + 1)) (λ e. refl) (λ e. refl)
+
+pub irs_accepted : (config : TcpConfig) (syn : SegmentFields) (now : ℕ) → (accepted config syn now).after.irs ≡ syn.seq
+unfolding listened
+irs_accepted config syn now = refl

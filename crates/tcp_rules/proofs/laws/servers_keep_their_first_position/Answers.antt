@@ -1,5 +1,8 @@
-use Rattle.tcp_rules.proofs.Lasting.{irs_segment, irs_timeout}
+use Rattle.tcp_rules.proofs.Lasting.{irs_accepted, irs_segment, irs_timeout}
 use Rattle.tcp_rules.proofs.laws.servers_keep_their_first_position.Goals as goal
+
+pub returns-clause-accepting : goal.returns-clause-accepting
+returns-clause-accepting c = irs_accepted
 
 pub returns-clause-segment : goal.returns-clause-segment
 returns-clause-segment c = irs_segment
