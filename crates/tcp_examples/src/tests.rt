@@ -52,6 +52,19 @@ fn pass(session: &mut Session, now: u64, out: &mut Segments) -> Result<(), Fail>
     Ok(())
 }
 
+/// The acts that a row wants, at most four.
+type Wanted = (Option<Act>, Option<Act>, Option<Act>, Option<Act>);
+
+/// Whether these acts are the wanted ones.
+fn are(acts: &[Act], want: Wanted) -> bool {
+    let (first, second, third, fourth) = want;
+    acts.first().copied() == first
+        && acts.get(1).copied() == second
+        && acts.get(2).copied() == third
+        && acts.get(3).copied() == fourth
+        && acts.len() <= 4
+}
+
 /// 1,500 bytes as the client sees them.
 #[test]
 fn client_transfer(rt: HostRuntime) -> Result<(), Fail> {
@@ -260,46 +273,67 @@ fn losses(rt: HostRuntime) -> Result<(), Fail> {
         .ok_or("memory")?;
     let data = |seq: u16| Act::Send(segment(seq, Some(501), PLAIN, 1_000));
     let ack = |a: u16| Some(segment(501, Some(a), PLAIN, 0));
-    let syn = Some(segment(500, Some(101), SYN, 0));
-    let fin = Act::Send(segment(5101, Some(501), FIN, 0));
+    let syn = || Some(segment(500, Some(101), SYN, 0));
+    let fin = || Act::Send(segment(5101, Some(501), FIN, 0));
     let pure = |seq: u16| Act::Send(segment(seq, Some(501), PLAIN, 0));
-    let rows: [(Option<Segment>, u64, &[Act], u64); 11] = [
+    let rows = [
         (
-            syn,
+            syn(),
             900,
-            &[Act::Entered(TcpState::Established), pure(101), data(101)],
+            (
+                Some(Act::Entered(TcpState::Established)),
+                Some(pure(101)),
+                Some(data(101)),
+                None,
+            ),
             3_600,
         ),
-        (ack(1101), 1_800, &[data(1101), data(2101)], 4_050),
-        (ack(1101), 1_900, &[], 4_050),
-        (ack(1101), 1_910, &[], 4_050),
-        (ack(1101), 1_920, &[data(1101)], 4_050),
-        (ack(1101), 1_930, &[], 4_050),
-        (syn, 1_940, &[pure(3101)], 4_050),
+        (
+            ack(1101),
+            1_800,
+            (Some(data(1101)), Some(data(2101)), None, None),
+            4_050,
+        ),
+        (ack(1101), 1_900, (None, None, None, None), 4_050),
+        (ack(1101), 1_910, (None, None, None, None), 4_050),
+        (
+            ack(1101),
+            1_920,
+            (Some(data(1101)), None, None, None),
+            4_050,
+        ),
+        (ack(1101), 1_930, (None, None, None, None), 4_050),
+        (syn(), 1_940, (Some(pure(3101)), None, None, None), 4_050),
         (
             ack(3101),
             2_700,
-            &[
-                data(3101),
-                data(4101),
-                Act::Entered(TcpState::FinWait1),
-                fin,
-            ],
+            (
+                Some(data(3101)),
+                Some(data(4101)),
+                Some(Act::Entered(TcpState::FinWait1)),
+                Some(fin()),
+            ),
             4_950,
         ),
-        (None, 4_950, &[data(3101)], 9_450),
-        (ack(4101), 5_000, &[data(4101), fin], 9_500),
-        (ack(5103), 5_100, &[], 9_500),
+        (None, 4_950, (Some(data(3101)), None, None, None), 9_450),
+        (
+            ack(4101),
+            5_000,
+            (Some(data(4101)), Some(fin()), None, None),
+            9_500,
+        ),
+        (ack(5103), 5_100, (None, None, None, None), 9_500),
     ];
     for (comes, at, want, due) in rows {
         out.clear();
         prove!(at <= 10_000);
+        prove!(due <= 10_000);
         let now = at * 1_000_000;
         match comes {
             Some(came) => client.segment(&came, now, &mut out).ok().ok_or("memory")?,
             None => pass(&mut client, now, &mut out)?,
         }
-        assert_eq!(rt; out.acts(), want, "{at}");
+        assert!(rt; are(out.acts(), want), "{at}");
         assert_eq!(rt; client.deadline(), Some(due * 1_000_000), "{at}");
     }
     Ok(())
@@ -321,47 +355,81 @@ fn server_again(rt: HostRuntime) -> Result<(), Fail> {
     .ok()
     .ok_or("memory")?;
     let answer = |a: u16| Act::Send(segment(501, Some(a), PLAIN, 0));
-    let syn = Act::Send(segment(500, Some(101), SYN, 0));
-    let fin = Act::Send(segment(501, Some(1602), FIN, 0));
-    let rows: [(Segment, &[Act], u64); 13] = [
-        (first, &[syn], 0),
-        (segment(101, Some(500), PLAIN, 1_000), &[], 0),
+    let syn = || Act::Send(segment(500, Some(101), SYN, 0));
+    let fin = || Act::Send(segment(501, Some(1602), FIN, 0));
+    let rows = [
+        (first, (Some(syn()), None, None, None), 0),
+        (
+            segment(101, Some(500), PLAIN, 1_000),
+            (None, None, None, None),
+            0,
+        ),
         (
             segment(101, Some(501), PLAIN, 1_000),
-            &[
-                Act::Entered(TcpState::Established),
-                Act::Delivered(1_000),
-                answer(1101),
-            ],
+            (
+                Some(Act::Entered(TcpState::Established)),
+                Some(Act::Delivered(1_000)),
+                Some(answer(1101)),
+                None,
+            ),
             1_000,
         ),
-        (first, &[], 1_000),
+        (first, (None, None, None, None), 1_000),
         (
             segment(32102, Some(501), PLAIN, 1_000),
-            &[answer(1101)],
+            (Some(answer(1101)), None, None, None),
             1_000,
         ),
-        (segment(33102, Some(501), FIN, 0), &[answer(1101)], 1_000),
-        (segment(1601, Some(501), FIN, 0), &[answer(1101)], 1_000),
-        (segment(1301, Some(501), PLAIN, 300), &[answer(1101)], 1_000),
+        (
+            segment(33102, Some(501), FIN, 0),
+            (Some(answer(1101)), None, None, None),
+            1_000,
+        ),
+        (
+            segment(1601, Some(501), FIN, 0),
+            (Some(answer(1101)), None, None, None),
+            1_000,
+        ),
+        (
+            segment(1301, Some(501), PLAIN, 300),
+            (Some(answer(1101)), None, None, None),
+            1_000,
+        ),
         (
             segment(1101, Some(501), PLAIN, 250),
-            &[Act::Delivered(500), Act::Entered(TcpState::LastAck), fin],
+            (
+                Some(Act::Delivered(500)),
+                Some(Act::Entered(TcpState::LastAck)),
+                Some(fin()),
+                None,
+            ),
             1_500,
         ),
-        (segment(1601, Some(501), FIN, 0), &[fin], 1_500),
-        (segment(1602, Some(501), PLAIN, 0), &[], 1_500),
+        (
+            segment(1601, Some(501), FIN, 0),
+            (Some(fin()), None, None, None),
+            1_500,
+        ),
+        (
+            segment(1602, Some(501), PLAIN, 0),
+            (None, None, None, None),
+            1_500,
+        ),
         (
             segment(1602, Some(502), PLAIN, 0),
-            &[Act::Entered(TcpState::Closed)],
+            (Some(Act::Entered(TcpState::Closed)), None, None, None),
             1_500,
         ),
-        (segment(1601, Some(501), FIN, 0), &[], 1_500),
+        (
+            segment(1601, Some(501), FIN, 0),
+            (None, None, None, None),
+            1_500,
+        ),
     ];
     for (comes, want, delivered) in rows {
         out.clear();
         server.segment(&comes, 1, &mut out).ok().ok_or("memory")?;
-        assert_eq!(rt; out.acts(), want, "{comes:?}");
+        assert!(rt; are(out.acts(), want), "{comes:?}");
         assert_eq!(rt; server.delivered(), delivered);
     }
     Ok(())
