@@ -1,2 +1,3 @@
 pub mod Packets
 pub mod Forwarding
+pub mod PacketViews

@@ -20,14 +20,15 @@ pub struct Packet {
 
 impl Model for Packet {
     ghost use Rattle.ip_layer.specs.Packets.{PacketFields, IsPacket};
+    ghost use Rattle.ip_layer.specs.PacketViews.{packet_view, packet_inside};
 
     ghost Value = { PacketFields };
 
-    ghost view = { λ p. record { src = p.src; dst = p.dst; tcp = p.tcp; ttl = p.ttl; src_port = p.src_port; dst_port = p.dst_port; bytes = p.bytes; segment = p.segment } };
+    ghost view = { packet_view };
 
-    ghost invariant = { λ p. IsPacket (record { src = p.src; dst = p.dst; tcp = p.tcp; ttl = p.ttl; src_port = p.src_port; dst_port = p.dst_port; bytes = p.bytes; segment = p.segment }) };
+    ghost invariant = { λ p. IsPacket (packet_view p) };
 
-    ghost inverse = { λ p. record { src = p.src; dst = p.dst; tcp = p.tcp; ttl = p.ttl; src_port = p.src_port; dst_port = p.dst_port; bytes = p.bytes; segment = p.segment } };
+    ghost inverse = { packet_inside };
 }
 
 impl Packet {
