@@ -1,19 +1,15 @@
 -- A run that goes on from one of its worlds, and runs to a later end.
-use Rattle.std.proofs.Common.{◌≡◌, ◌⊎◌, ℕ, zero, suc, ◌+◌, ◌<◌, ◌≤◌, true, nat_le, Bool, List, [], ◌∷◌, refl, sym, ap, ◌∙◌, inl, inr, arith, Option, Some, None, zero-add, suc-add}
-use Rattle.std.proofs.lemmas.Grind.{common_steps}
+use Rattle.std.proofs.Common.{◌≡◌, ◌⊎◌, ℕ, zero, suc, ◌+◌, ◌<◌, ◌≤◌, true, nat_le, Bool, List, [], ◌∷◌, refl, ap, ◌∙◌, inl, inr, arith, Option, Some, None, zero-add, suc-add}
 use Rattle.event_order.specs.declared.key.Key.{Key}
 use Rattle.event_order.specs.Machine.{Machine, World, due, stepped, after, event}
 use Rattle.event_order.proofs.Pending.{test_cases}
-use Rattle.event_order.proofs.Steps.{le_test, ended_later}
+use Rattle.event_order.proofs.Steps.{le_true, le_test, ended_later}
 
 module _ {X E : Type 0} (m : Machine X E) (until : ℕ) (kept : Key → Bool) where
   -- after n events and k more the run is where k events lead from the world after n
   pub goes_on : (w : World X E) (n k : ℕ) → after m until kept w (k + n) ≡ after m until kept (after m until kept w n) k
   goes_on w n zero = rw zero-add refl
   goes_on w n (suc k) = rw suc-add (ap (λ (v : World X E). stepped m until kept v.state v.pending) (goes_on w n k))
-
-le_true : (a b : ℕ) → nat_le a b ≡ true → a ≤ b
-le_true a b h = grind (arith, common_steps)
 
 some_or_none : {E : Type 0} (o : Option E) → ((e : E) × (o ≡ Some e)) ⊎ (o ≡ None)
 some_or_none None = inr refl

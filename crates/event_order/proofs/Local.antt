@@ -1,23 +1,13 @@
 -- The state of a group depends on the group's own events alone.
-use Rattle.std.proofs.Common.{◌≡◌, ℕ, zero, suc, ◌+◌, Bool, true, false, List, [], ◌∷◌, ◌++◌, filter, Some, None, refl, sym, ap, ◌∙◌, subst, inl, inr, arith, zero-add}
+use Rattle.std.proofs.Common.{◌≡◌, ℕ, zero, suc, ◌+◌, Bool, true, false, List, [], ◌∷◌, ◌++◌, Some, None, refl, sym, ap, ◌∙◌, subst, inl, inr, arith, zero-add, append-nil}
 use native.Mathlib.Nat.{suc-add}
+use Rattle.std.proofs.lemmas.List.Elements.{filter-append}
 use Rattle.event_order.specs.declared.key.Key.{Key}
 use Rattle.event_order.proofs.Pending.{test_cases}
 use Rattle.event_order.specs.Machine.{Machine, World, after, event, option_list, first_events}
 use Rattle.event_order.specs.Run.{NoneBetween, share, acted}
 use Rattle.event_order.specs.Laws.{IsLocal}
 use Rattle.event_order.proofs.Steps.{Takes, step_cases}
-
-filter_append : {E : Type 0} (p : E → Bool) (xs ys : List E) → filter p (xs ++ ys) ≡ filter p xs ++ filter p ys
-filter_append p [] ys = refl
-filter_append p (x ∷ xs) ys = elim (test_cases (p x)) [
-  | inl t ↦ rw (t, filter_append p xs ys) refl
-  | inr f ↦ rw (f, filter_append p xs ys) refl
-]
-
-append_none : {E : Type 0} (xs : List E) → xs ++ [] ≡ xs
-append_none [] = refl
-append_none (x ∷ xs) = ap (λ ys. x ∷ ys) (append_none xs)
 
 module _ {X E : Type 0} (m : Machine X E) where
   acted_append : (x : X) (es ds : List E) → acted m x (es ++ ds) ≡ acted m (acted m x es) ds
@@ -28,13 +18,13 @@ module _ {X E : Type 0} (m : Machine X E) (until : ℕ) (kept : Key → Bool) (w
   -- ---- the share of a group
 
   pub share_own : (n : ℕ) (e : E) → event m until kept w n ≡ Some e → mine e ≡ true → share m until kept w mine (suc n) ≡ share m until kept w mine n ++ e ∷ []
-  share_own n e h own = filter_append mine (first_events m until kept w n) (option_list (event m until kept w n)) ∙ rw (h, own) refl
+  share_own n e h own = filter-append mine (first_events m until kept w n) (option_list (event m until kept w n)) ∙ rw (h, own) refl
 
   pub share_other : (n : ℕ) (e : E) → event m until kept w n ≡ Some e → mine e ≡ false → share m until kept w mine (suc n) ≡ share m until kept w mine n
-  share_other n e h other = filter_append mine (first_events m until kept w n) (option_list (event m until kept w n)) ∙ rw (h, other) (append_none _)
+  share_other n e h other = filter-append mine (first_events m until kept w n) (option_list (event m until kept w n)) ∙ rw (h, other) (append-nil _)
 
   pub share_over : (n : ℕ) → event m until kept w n ≡ None → share m until kept w mine (suc n) ≡ share m until kept w mine n
-  share_over n h = filter_append mine (first_events m until kept w n) (option_list (event m until kept w n)) ∙ rw h (append_none _)
+  share_over n h = filter-append mine (first_events m until kept w n) (option_list (event m until kept w n)) ∙ rw h (append-nil _)
 
   -- over a stretch without own events the share stays
   pub share_same : (k n : ℕ) → NoneBetween m until kept w mine n (k + n) → share m until kept w mine (k + n) ≡ share m until kept w mine n

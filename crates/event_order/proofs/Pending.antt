@@ -3,7 +3,7 @@ use Rattle.std.proofs.Common.{◌≡◌, ◌⊎◌, Bool, true, false, List, [],
 use Rattle.event_order.specs.declared.key.Key.{Key}
 use Rattle.event_order.specs.Order.{comes_before, IsBefore}
 use Rattle.event_order.specs.Pending.{put, put_all, Among, IsRising, IsApart}
-use Rattle.event_order.proofs.Order.{before_trans, before_cases, before_irrefl}
+use Rattle.event_order.proofs.Order.{before_trans, before_cases, before_irrefl, before_asym}
 
 -- a test is true or false
 pub test_cases : (b : Bool) → (b ≡ true) ⊎ (b ≡ false)
@@ -138,3 +138,36 @@ module _ {T : Type 0} where
     one_of_key (z ∷ xs) x y p (inl d) (inr b) e = absurd (p.0 y b (sym (ap key d) ∙ e))
     one_of_key (z ∷ xs) x y p (inr a) (inl f) e = absurd (p.0 x a (sym (ap key f) ∙ sym e))
     one_of_key (z ∷ xs) x y p (inr a) (inr b) e = one_of_key xs x y p.1 a b e
+
+    -- one more item, later than all that stand before it
+    pub rising_append : (xs : List T) (y : T) → IsRising key xs → ((x : T) → Among x xs → IsBefore (key x) (key y)) → IsRising key (xs ++ y ∷ [])
+    rising_append [] y r later = ((λ z a. absurd a), tt)
+    rising_append (x ∷ xs) y r later = (
+      (λ z a. elim (append_among z xs (y ∷ []) a) [
+        | inl b ↦ r.0 z b
+        | inr b ↦ elim b [ inl e ↦ subst (λ w. IsBefore (key x) (key w)) (sym e) (later x (inl refl)) | inr none ↦ absurd none ]
+      ]),
+      rising_append xs y r.1 (λ z a. later z (inr a)),
+    )
+
+    pub rising_filter : (p : T → Bool) (xs : List T) → IsRising key xs → IsRising key (filter p xs)
+    rising_filter p [] r = tt
+    rising_filter p (x ∷ xs) r = elim (test_cases (p x)) [
+      | inl t ↦ rw t ((λ z a. r.0 z (filter_among p z xs a).among), rising_filter p xs r.1)
+      | inr f ↦ rw f (rising_filter p xs r.1)
+    ]
+
+    -- a list in key order is known by what is among it
+    pub rising_same : (xs ys : List T) → IsRising key xs → IsRising key ys → ((z : T) → Among z xs → Among z ys) → ((z : T) → Among z ys → Among z xs) → xs ≡ ys
+    rising_same [] [] r s f g = refl
+    rising_same [] (y ∷ ys) r s f g = absurd (g y (inl refl))
+    rising_same (x ∷ xs) [] r s f g = absurd (f x (inl refl))
+    rising_same (x ∷ xs) (y ∷ ys) r s f g =
+        let head : x ≡ y = elim (f x (inl refl)) [
+          | inl e ↦ e
+          | inr a ↦ elim (g y (inl refl)) [ inl e ↦ sym e | inr b ↦ absurd (before_asym (key y) (key x) (s.0 x a) (r.0 y b)) ]
+        ] in
+        let rest : xs ≡ ys = rising_same xs ys r.1 s.1
+        (λ z a. elim (f z (inr a)) [ inl e ↦ absurd (before_irrefl (key x) (subst (λ w. IsBefore (key x) (key w)) (e ∙ sym head) (r.0 z a))) | inr b ↦ b ])
+        (λ z a. elim (g z (inr a)) [ inl e ↦ absurd (before_irrefl (key y) (subst (λ w. IsBefore (key y) (key w)) (e ∙ head) (s.0 z a))) | inr b ↦ b ]) in
+        λ i. head i ∷ rest i

@@ -4,7 +4,7 @@ use Rattle.event_order.specs.declared.key.Key.{Key}
 use Rattle.event_order.specs.Pending.{put_all, Among}
 use Rattle.event_order.proofs.Pending.{test_cases}
 use Rattle.event_order.specs.Machine.{Machine, World, due, stepped, after, event, first_events, within, all_kept}
-use Rattle.event_order.specs.Run.{Chain}
+use Rattle.event_order.specs.Run.{Run, Numbered, Chain}
 use Rattle.event_order.specs.Laws.{HasRounds}
 use Rattle.event_order.proofs.Steps.{le_test, provenance, event_arises}
 
@@ -39,27 +39,30 @@ module _ {X E : Type 0} (m : Machine X E) (until : ℕ) (w : World X E) where
 module _ {X E : Type 0} (m : Machine X E) (until : ℕ) (kept : Key → Bool) (w : World X E) (fine : X → E → Type 0) (joined : E → E → Type 0) (rounded : HasRounds m fine joined)
     (all_fine : (n : ℕ) (e : E) → event m until kept w n ≡ Some e → fine (after m until kept w n).state e)
     (first : (d : E) → Among d w.pending → (m.key d).round ≡ 0) where
-  rounds_by : (r n : ℕ) (e : E) → event m until kept w n ≡ Some e → (m.key e).round ≡ r → Chain m until kept w joined n e r
+  abbrev run : Run X E
+  run = record { machine = m; until = until; kept = kept; opening = w }
+
+  rounds_by : (r n : ℕ) (e : E) → event m until kept w n ≡ Some e → (m.key e).round ≡ r → Chain run joined (record { number = n; event = e }) r
   rounds_by zero n e h same = tt
   rounds_by (suc r) n e h same = elim (event_arises m until kept w n e h) [
     | inl a ↦ absurd (let none : (m.key e).round ≡ 0 = first e a in omega arith)
     | inr s ↦ let by = s.written in elim (rounded.parented (after m until kept w s.at).state by.by e (all_fine s.at by.by by.is) by.among) [
       | inl later ↦ absurd (omega (arith, later.0))
       | inr next ↦ let below : (m.key by.by).round ≡ r = omega (arith, next.0) in
-          (s.at, by.by, record { is = by.is; earlier = s.before; written = by.among; time = sym next.1; at_round = below; link = next.2 }, rounds_by r s.at by.by by.is below)
+          (record { number = s.at; event = by.by }, record { is = by.is; earlier = s.before; written = by.among; time = sym next.1; round = sym next.0; link = next.2 }, rounds_by r s.at by.by by.is below)
     ]
   ]
 
   -- before an event of round k stand k events at its time, each of which wrote the next
-  pub rounds : (n : ℕ) (e : E) → event m until kept w n ≡ Some e → Chain m until kept w joined n e (m.key e).round
+  pub rounds : (n : ℕ) (e : E) → event m until kept w n ≡ Some e → Chain run joined (record { number = n; event = e }) (m.key e).round
   rounds n e h = rounds_by (m.key e).round n e h refl
 
-  chain_below : (r n : ℕ) (e : E) → Chain m until kept w joined n e r → r ≤ n
-  chain_below zero n e c = omega arith
-  chain_below (suc r) n e c = let less = c.2.earlier in omega (arith, chain_below r c.0 c.1 c.3)
+  chain_below : (r : ℕ) (e : Numbered E) → Chain run joined e r → r ≤ e.number
+  chain_below zero e c = omega arith
+  chain_below (suc r) e c = let less = c.1.earlier in omega (arith, chain_below r c.0 c.2)
 
   pub event_round : (n : ℕ) (e : E) → event m until kept w n ≡ Some e → (m.key e).round ≤ n
-  event_round n e h = chain_below (m.key e).round n e (rounds n e h)
+  event_round n e h = chain_below (m.key e).round (record { number = n; event = e }) (rounds n e h)
 
   -- what event number n writes has a round of at most n + 1
   pub written_round : (n : ℕ) (e b : E) → event m until kept w n ≡ Some e → Among b (m.writes (after m until kept w n).state e) → (m.key b).round ≤ suc n

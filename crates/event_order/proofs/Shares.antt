@@ -6,7 +6,7 @@ use Rattle.event_order.specs.declared.key.Key.{Key}
 use Rattle.event_order.specs.Pending.{Among}
 use Rattle.event_order.proofs.Pending.{test_cases}
 use Rattle.event_order.specs.Machine.{Machine, World, due, after, event, option_list, first_events}
-use Rattle.event_order.specs.Run.{Chain, share}
+use Rattle.event_order.specs.Run.{Run, Chain, share}
 use Rattle.event_order.specs.Laws.{HasRounds}
 use Rattle.event_order.proofs.Local.{share_own}
 use Rattle.event_order.proofs.Rounds.{rounds, same_cut}
@@ -45,22 +45,26 @@ module _ {X E : Type 0} (m : Machine X E) (until : ℕ) (kept : Key → Bool) (w
   share_length mine zero = omega arith
   share_length mine (suc n) = omega (arith, filter_one mine (first_events m until kept w n) (event m until kept w n), share_length mine n)
 
+  abbrev run : Run X E
+  run = record { machine = m; until = until; kept = kept; opening = w }
+
   -- a chain within one share, and the share's length
   pub chain_share : (joined : E → E → Type 0) (mine : E → Bool) → ((p d : E) → joined p d → (m.key p).time ≡ (m.key d).time → mine d ≡ true → mine p ≡ true) →
-      (r n : ℕ) (e : E) → event m until kept w n ≡ Some e → mine e ≡ true → Chain m until kept w joined n e r → r < length (share m until kept w mine (suc n))
+      (r n : ℕ) (e : E) → event m until kept w n ≡ Some e → mine e ≡ true → Chain run joined (record { number = n; event = e }) r → r < length (share m until kept w mine (suc n))
   chain_share joined mine stays zero n e h own c = omega (
     arith,
     ap (λ (es : List E). length es) (share_own m until kept w mine n e h own),
     one_more (share m until kept w mine n) e,
   )
   chain_share joined mine stays (suc r) n e h own c =
-      let link = c.2 in
-      let before = chain_share joined mine stays r c.0 c.1 link.is (stays c.1 e link.link link.time own) c.3 in
-      let early : suc c.0 ≤ n = omega (arith, link.earlier) in
+      let cause = c.0 in
+      let link = c.1 in
+      let before = chain_share joined mine stays r cause.number cause.event link.is (stays cause.event e link.link link.time own) c.2 in
+      let early : suc cause.number ≤ n = omega (arith, link.earlier) in
       omega (
         arith,
         before,
-        grows_to mine (suc c.0) n early,
+        grows_to mine (suc cause.number) n early,
         ap (λ (es : List E). length es) (share_own m until kept w mine n e h own),
         one_more (share m until kept w mine n) e,
       )

@@ -22,10 +22,10 @@ pub record Rests {X E : Type 0} (m : Machine X E) (until : ℕ) (kept : Key → 
   pub none : due m.key until ps ≡ None
   pub next_is : stepped m until kept x ps ≡ record { state = x; pending = ps }
 
-le_true : (a b : ℕ) → nat_le a b ≡ true → a ≤ b
+pub le_true : (a b : ℕ) → nat_le a b ≡ true → a ≤ b
 le_true a b h = grind (arith, common_steps)
 
-le_false : (a b : ℕ) → nat_le a b ≡ false → b < a
+pub le_false : (a b : ℕ) → nat_le a b ≡ false → b < a
 le_false a b h = grind (arith, common_steps)
 
 pub le_test : (a b : ℕ) → a ≤ b → nat_le a b ≡ true

@@ -36,22 +36,32 @@ Arises m until kept w x = Among x w.pending ⊎ ((k : ℕ) × WrittenAt m until 
 abbrev pub NoneBetween : {X E : Type 0} → Machine X E → ℕ → (Key → Bool) → World X E → (E → Bool) → ℕ → ℕ → Type 0
 NoneBetween {X} {E} m until kept w mine n k = (j : ℕ) (e : E) → n ≤ j → j < k → event m until kept w j ≡ Some e → mine e ≡ false
 
--- p is event number n, writes e, and is executed before e, which is event number k: at one time with it, in round
--- `round`, and joined to it
-pub record IsLink {X E : Type 0} (m : Machine X E) (until : ℕ) (kept : Key → Bool) (w : World X E) (joined : E → E → Type 0) (round : ℕ) (n : ℕ) (p : E) (k : ℕ) (e : E) : Type 0 where
-  pub is : event m until kept w n ≡ Some p
-  pub earlier : n < k
-  pub written : Among e (m.writes (after m until kept w n).state p)
-  pub time : (m.key p).time ≡ (m.key e).time
-  pub at_round : (m.key p).round ≡ round
-  pub link : joined p e
+-- the run of a machine up to the time `until`, with a cut, from an opening on
+pub record Run (X E : Type 0) : Type 0 where
+  pub machine : Machine X E
+  pub until : ℕ
+  pub kept : Key → Bool
+  pub opening : World X E
 
--- before event number n, which is e, stand as many events as `rounds` says, one of each lower round, each of which wrote
--- the next and is joined to it
-abbrev pub Chain : {X E : Type 0} → Machine X E → ℕ → (Key → Bool) → World X E → (E → E → Type 0) → ℕ → E → ℕ → Type 0
-Chain m until kept w joined n e zero = Unit {0}
-Chain {X} {E} m until kept w joined n e (suc rounds) =
-    (j : ℕ) × (p : E) × IsLink m until kept w joined rounds j p n e × Chain m until kept w joined j p rounds
+-- an event and its number in a run
+pub record Numbered (E : Type 0) : Type 0 where
+  pub number : ℕ
+  pub event : E
+
+-- an event of the run, the cause, writes another, the effect, and is executed before it: at one time with it, one round
+-- lower, and joined to it
+pub record IsLink {X E : Type 0} (run : Run X E) (joined : E → E → Type 0) (cause effect : Numbered E) : Type 0 where
+  pub is : event run.machine run.until run.kept run.opening cause.number ≡ Some cause.event
+  pub earlier : cause.number < effect.number
+  pub written : Among effect.event (run.machine.writes (after run.machine run.until run.kept run.opening cause.number).state cause.event)
+  pub time : (run.machine.key cause.event).time ≡ (run.machine.key effect.event).time
+  pub round : suc (run.machine.key cause.event).round ≡ (run.machine.key effect.event).round
+  pub link : joined cause.event effect.event
+
+-- before an event of the run stand as many as `rounds` says, each of which wrote the next and is joined to it
+abbrev pub Chain : {X E : Type 0} → Run X E → (E → E → Type 0) → Numbered E → ℕ → Type 0
+Chain run joined effect zero = Unit {0}
+Chain {X} {E} run joined effect (suc rounds) = (cause : Numbered E) × IsLink run joined cause effect × Chain run joined cause rounds
 
 -- the events among the first n that pass the test
 abbrev pub share : {X E : Type 0} → Machine X E → ℕ → (Key → Bool) → World X E → (E → Bool) → ℕ → List E

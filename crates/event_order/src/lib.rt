@@ -4,14 +4,12 @@
 //! Contracts cite `specs/Order.antt` (the order, and a child's key). `specs/Pending.antt` has lists
 //! of items in this order. `specs/Machine.antt` says what a machine and its run are,
 //! `specs/Run.antt` which event is executed where and what wrote it, and `specs/Laws.antt` what a
-//! machine has to meet. The laws of a machine's run are the contracts of the functions in [`laws`].
-//! `proofs/` has the laws of the order and of the machine once more in the form in which the crates
-//! above cite them, and rows worked out by hand.
+//! machine has to meet so that its run has the laws. `proofs/` has these laws, by which the crates
+//! above prove those of the runs of plans, and rows worked out by hand.
 #![tactic(auto)]
 
 mod key;
 mod keyed;
-pub mod laws;
 
 pub use key::{Key, child_key};
 pub use keyed::Keyed;

@@ -11,18 +11,19 @@ use Rattle.ssf_model.specs.declared.wait.Kind.TheVariants.{Begin, Timer, Message
 use Rattle.ssf_model.specs.declared.out.Written.{Written}
 use Rattle.ssf_model.specs.declared.out.Written.TheVariants.{Channel, Timer as TimerWrite}
 use Rattle.ssf_model.specs.declared.process.Process.{Process}
-use Rattle.ssf_model.specs.Wake.{waits_on, timer_delay, HasTimer}
+use Rattle.ssf_model.specs.Wake.{waits_on, timer_delay, HasTimer, IsTimelyTicket}
 use Rattle.ssf_model.specs.Reaction.{Reaction, Validity, KeepsValid, IsOwnWrite, IsOwnWait, LatestTime, LongestDelay, is_timed, wait_of, Admits, Carries, Each, channels_named}
 use Rattle.ssf_model.specs.Deliver.{wake_of, timer_write, reacted, Reacted, delivered, Delivered, IsTimely, IsCarried}
 use Rattle.run_health.specs.Healthy.{IsWaiting}
+use Rattle.ssf_model.proofs.Delivering.{chosen, admitted}
 use Rattle.ssf_model.proofs.Lists.{each_append, count_append, count_cons}
 
 -- ---- tickets
 
--- a ticket that a process gave out: it is the present one only while the process waits for its timer
+-- a ticket that a process gave out, by the rule of tickets
 pub record IsGivenBy (ticket : ℕ) (p : Process) : Type 0 where
   pub given : ticket ≤ p.ticket
-  pub present : ticket ≡ p.ticket → HasTimer p.wait
+  pub present : IsTimelyTicket p.wait p.ticket ticket
 
 abbrev pub IsGiven : {P : Type 0} → Kind P → List Process → Type 0
 IsGiven (Timer process ticket) ps = IfSome (slice_get ps process) (IsGivenBy ticket)
@@ -75,28 +76,6 @@ next_done (d ∷ done) q = let h = next_done done q in omega arith
 
 -- ---- what wakes a process
 
-chosen : {A : Type 0} (b : Bool) (x y : A) → cond b (Some x) None ≡ Some y → (b ≡ true) × (x ≡ y)
-chosen b x y = elim b as (λ v. cond v (Some x) None ≡ Some y → (v ≡ true) × (x ≡ y)) [ true ↦ (λ e. (refl, cc)) | false ↦ (λ e. cc) ]
-
-both_hold : (a b : Bool) → (a && b) ≡ true → (a ≡ true) × (b ≡ true)
-both_hold a b = elim a as (λ v. (v && b) ≡ true → (v ≡ true) × (b ≡ true)) [ true ↦ (λ e. (refl, e)) | false ↦ (λ e. cc) ]
-
--- what wakes the process after these is what it waits for
-pub admitted : {P : Type 0} (kind : Kind P) (done ps : List Process) (p : Process) (wake : Wake P) →
-    IsGiven kind (done ++ p ∷ ps) → wake_of kind (length done) p ≡ Some wake → Admits p.wait wake
-admitted Begin done ps p wake t e = let q : BeginWake ≡ wake = cc in subst (λ v. Admits p.wait v) q tt
-admitted (Timer process ticket) done ps p wake t e =
-    let c = chosen (nat_eq process (length done) && nat_eq ticket p.ticket) TimerWake wake e in
-    let b = both_hold (nat_eq process (length done)) (nat_eq ticket p.ticket) c.0 in
-    let here : process ≡ length done = eqb-true process (length done) b.0 in
-    let now : ticket ≡ p.ticket = eqb-true ticket p.ticket b.1 in
-    let found : slice_get (done ++ p ∷ ps) process ≡ Some p = rw here (own_at done ps p) in
-    let g : IsGivenBy ticket p = rw found at t in
-    subst (λ v. Admits p.wait v) c.1 (g.present now)
-admitted (Message channel payload) done ps p wake t e =
-    let c = chosen (waits_on p.wait channel) (MessageWake channel payload) wake e in
-    subst (λ v. Admits p.wait v) c.1 c.0
-
 carried_by : {P : Type 0} (carried : P → Type 0) (kind : Kind P) (i : ℕ) (p : Process) (wake : Wake P) →
     IsCarried carried kind → wake_of kind i p ≡ Some wake → Carries carried wake
 carried_by carried Begin i p wake k e = let q : BeginWake ≡ wake = cc in subst (λ v. Carries carried v) q tt
@@ -105,7 +84,7 @@ carried_by carried (Timer process ticket) i p wake k e =
 carried_by carried (Message channel payload) i p wake k e =
     let c = chosen (waits_on p.wait channel) (MessageWake channel payload) wake e in subst (λ v. Carries carried v) c.1 k
 
-at_process : (o : Option Process) (ticket : ℕ) → IfSome o (IsGivenBy ticket) → IfSome o (λ p. ticket ≡ p.ticket → HasTimer p.wait)
+at_process : (o : Option Process) (ticket : ℕ) → IfSome o (IsGivenBy ticket) → IfSome o (λ p. IsTimelyTicket p.wait p.ticket ticket)
 at_process None ticket g = tt
 at_process (Some p) ticket g = g.present
 
@@ -113,6 +92,11 @@ pub given_timely : {P : Type 0} (kind : Kind P) (ps : List Process) → IsGiven 
 given_timely Begin ps g = tt
 given_timely (Message channel payload) ps g = tt
 given_timely (Timer process ticket) ps g = at_process (slice_get ps process) ticket g
+
+-- what wakes the process after these is what it waits for
+admitted_next : {P : Type 0} (kind : Kind P) (done ps : List Process) (p : Process) (wake : Wake P) →
+    IsGiven kind (done ++ p ∷ ps) → wake_of kind (length done) p ≡ Some wake → Admits p.wait wake
+admitted_next kind done ps p wake given e = admitted kind (length done) p (done ++ p ∷ ps) wake (own_at done ps p) (given_timely kind (done ++ p ∷ ps) given) e
 
 -- ---- what is written
 
@@ -188,7 +172,7 @@ AdmitsFrom {P} kind i (p ∷ ps) = ((wake : Wake P) → wake_of kind i p ≡ Som
 pub admits_from : {P : Type 0} (kind : Kind P) (done ps : List Process) (i : ℕ) → i ≡ length done → IsGiven kind (done ++ ps) → AdmitsFrom kind i ps
 admits_from kind done [] i e g = tt
 admits_from kind done (p ∷ ps) i e g = (
-  (λ wake h. admitted kind done ps p wake g (rw (← e) h)),
+  (λ wake h. admitted_next kind done ps p wake g (rw (← e) h)),
   admits_from kind (done ++ p ∷ []) ps (i + 1) (omega (arith, e, next_done done p)) (subst (λ whole. IsGiven kind whole) (sym (snoc done p ps)) g),
 )
 

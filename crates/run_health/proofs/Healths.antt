@@ -18,7 +18,7 @@ use Rattle.ssf_model.specs.Reaction.{Reaction, Validity, KeepsValid, LatestTime,
 use Rattle.ssf_model.specs.Deliver.{IsModest, IsCarried, MostWrites, wake_of, reacted, delivered}
 use Rattle.ssf_model.specs.Drafts.{MostChannels}
 use Rattle.ssf_model.specs.Channels.{Sent, delivered_to, entity_after, sent_by, counted, numbered}
-use Rattle.ssf_model.specs.Run.{MostTicket, States, HasAt, IsEndFor, IsOnChannel, IsMappingOf, IsWired, timers_of}
+use Rattle.ssf_model.specs.Run.{MostCount, MostTicket, States, HasAt, IsEndFor, IsOnChannel, IsMappingOf, IsWired, timers_of}
 use Rattle.run_health.specs.Groups.{IsWriterOn}
 use Rattle.ssf_model.specs.Channels.{is_on}
 use Rattle.run_health.specs.Healthy.{MostSent, Shape, shape, timer_at, IsHealthyEntity, IsHealthyEvent, IsHealthy}
@@ -311,7 +311,7 @@ module _ {B S P : Type 0} (r : Reaction S P) (valid : Validity S) (carried : P �
           time = let sum : d.key.time ≡ e.key.time + s.delay = ap (λ (k : Key). k.time) from.key_is in omega (arith, good.delay);
         }
 
-    more_counts : (k c : ℕ) → IsWriterOn plan k c → counted x.counts (sent_by r plan.mappings e en) c ≤ 5000000000000000000 + next k * MostSent
+    more_counts : (k c : ℕ) → IsWriterOn plan k c → counted x.counts (sent_by r plan.mappings e en) c ≤ MostCount + next k * MostSent
     more_counts k c w =
         let sum = counted_is x.counts (sent_by r plan.mappings e en) c in
         let before = healthy.counts k c w in

@@ -3,7 +3,7 @@ use Rattle.std.proofs.Common.{◌≡◌, ◌⊎◌, ℕ, ◌+◌, ◌≤◌, Boo
 use Rattle.event_order.specs.declared.key.Key.{Key}
 use Rattle.event_order.specs.Pending.{Among}
 use Rattle.event_order.specs.Machine.{first_events}
-use Rattle.event_order.specs.Run.{Chain, share}
+use Rattle.event_order.specs.Run.{Run, Numbered, Chain, share}
 use Rattle.event_order.specs.Laws.{HasRounds}
 use Rattle.event_order.proofs.Pending.{test_cases}
 use Rattle.event_order.proofs.Local.{share_own}
@@ -20,6 +20,7 @@ use Rattle.ssf_model.specs.Run.{States, writes_at, machine_of, opening, world_af
 use Rattle.ssf_model.specs.Scene.{Net, scene_of}
 use Rattle.ssf_model.specs.Truth.{is_on_line, line_events_at, AreFew}
 use Rattle.run_health.specs.Joined.{IsFollowing, FollowsEarlier, IsPassedOn, IsAligned, KeepsRounds}
+use Rattle.ssf_model.proofs.Delivering.{both_hold}
 use Rattle.ssf_model.proofs.Lists.{each_among}
 use Rattle.ssf_model.proofs.Counts.{numbered_is, writes_rounded}
 use Rattle.run_health.proofs.Delivers.{IsOnOwn}
@@ -39,11 +40,8 @@ filter_both p q (x ∷ xs) = elim (test_cases (p x)) [
   | inr f ↦ rw f (filter_both p q xs)
 ]
 
-both_hold : (a b : Bool) → a ≡ true → b ≡ true → (a && b) ≡ true
-both_hold a b h g = rw (h, g) refl
-
-parts_hold : (a b : Bool) → (a && b) ≡ true → (a ≡ true) × (b ≡ true)
-parts_hold a b = elim a as (λ v. (v && b) ≡ true → (v ≡ true) × (b ≡ true)) [ true ↦ (λ e. (refl, e)) | false ↦ (λ e. cc) ]
+test_both : (a b : Bool) → a ≡ true → b ≡ true → (a && b) ≡ true
+test_both a b h g = rw (h, g) refl
 
 module _ {B S P : Type 0} (r : Reaction S P) (valid : Validity S) (carried : P → Type 0) (law : KeepsValid valid carried r) (modest : IsModest valid carried r)
     (plan : Plan B S P) (until : ℕ) (in_time : until ≤ LatestTime) (fits : Fits valid carried plan) (kept : Key → Bool) where
@@ -125,9 +123,12 @@ module _ {B S P : Type 0} (r : Reaction S P) (valid : Validity S) (carried : P �
   unfolding machine_of
   rounds_opened d a = (each_among (IsPending carried plan) plan.events d fits.opened.pending a).round
 
+  abbrev pub run : Run (States B S P) (Event P)
+  run = record { machine = machine_of r plan.mappings; until = until; kept = kept; opening = opening plan }
+
   -- before an event of round k stand k events at its time, each of which passed the next on
   pub passed_rounds : (n : ℕ) (e : Event P) → run_event r plan until kept n ≡ Some e →
-      Chain (machine_of {B = B} r plan.mappings) until kept (opening plan) (IsPassedOn r plan until kept) n e e.key.round
+      Chain run (IsPassedOn r plan until kept) (record { number = n; event = e }) e.key.round
   unfolding machine_of
   passed_rounds n e h =
       rounds (machine_of {B = B} r plan.mappings) until kept (opening plan) Passes (IsPassedOn r plan until kept) fitting_rounds passes
@@ -154,10 +155,10 @@ module _ {B S P : Type 0} (r : Reaction S P) (valid : Validity S) (carried : P �
         let on = is_on_line (scene_of r plan until kept line net) (line e.entity) in
         let at : Event P → Bool = λ d. nat_eq d.key.time e.key.time in
         let mine : Event P → Bool = λ d. on d && at d in
-        let own : mine e ≡ true = both_hold (on e) (at e) (on_own e) (eq-eqb e.key.time e.key.time refl) in
+        let own : mine e ≡ true = test_both (on e) (at e) (on_own e) (eq-eqb e.key.time e.key.time refl) in
         let long = chain_share m until kept (opening plan) (IsPassedOn r plan until kept) mine
-        (λ p d j t held. let parts = parts_hold (on d) (at d) held in
-        both_hold (on p) (at p) (stays_on (line e.entity) p d j parts.0) (eq-eqb p.key.time e.key.time (t ∙ eqb-true d.key.time e.key.time parts.1)))
+        (λ p d j t held. let parts = both_hold (on d) (at d) held in
+        test_both (on p) (at p) (stays_on (line e.entity) p d j parts.0) (eq-eqb p.key.time e.key.time (t ∙ eqb-true d.key.time e.key.time parts.1)))
         e.key.round n e h own (passed_rounds n e h) in
         let split = filter_both on at (first_events m until kept (opening plan) n) in
         omega (

@@ -11,14 +11,19 @@ use Rattle.ssf_model.specs.declared.entity.Entity.{Entity}
 use Rattle.ssf_model.specs.declared.plan.Mapping.{Mapping}
 use Rattle.ssf_model.specs.declared.plan.Plan.{Plan}
 use Rattle.ssf_model.specs.Wake.{HasTimer}
-use Rattle.ssf_model.specs.Reaction.{Reaction, Validity, LatestTime, LongestDelay, Each, channels_named}
+use Rattle.ssf_model.specs.Reaction.{Reaction, Validity, LatestTime, Each, channels_named}
+use Rattle.ssf_model.specs.Deliver.{MostWrites}
+use Rattle.ssf_model.specs.Drafts.{MostChannels}
 use Rattle.ssf_model.specs.Entities.{IsValidEntity}
-use Rattle.ssf_model.specs.Run.{States, IsOnChannel, MostCount, MostTicket, machine_of, opening, run_event, world_after}
+use Rattle.ssf_model.specs.Run.{States, Fits, IsOnChannel, MostCount, MostTicket, LatestPending, machine_of, opening, run_event, world_after}
+use Rattle.ssf_model.specs.Scene.{Scene}
+use Rattle.ssf_model.specs.Runs.{OfEachFittingRun}
 use Rattle.run_health.specs.Groups.{IsWriterOn}
+use Rattle.run_health.specs.Joined.{IsAligned}
 
 -- no event writes more often on one channel: so much is room for the writes of its actions and the ends of its waits
 abbrev pub MostSent : ℕ
-MostSent = 4456448
+MostSent = MostWrites + MostChannels
 
 -- the most events of a timeline
 abbrev pub MostEvents : ℕ
@@ -45,6 +50,18 @@ pub record HappensAt {B S P : Type 0} (r : Reaction S P) (plan : Plan B S P) (un
   pub is : run_event r plan until kept n ≡ Some e
   pub at : slice_get (world_after r plan until kept n).state.entities e.entity ≡ Some entity
 
+-- the law holds of each event of the run of each plan that fits, and of the entity at which it happens
+abbrev pub OfEachHappening : {B S P : Type 0} → Validity S → (P → Type 0) → Reaction S P
+    → (Plan B S P → (ℕ → ℕ) → Scene (States B S P) (Event P) → ℕ → Event P → Entity B S P → Type 0) → Type 0
+OfEachHappening {B} {S} {P} valid carried r law = OfEachFittingRun valid carried r (λ plan line s.
+    (n : ℕ) (e : Event P) (entity : Entity B S P) → HappensAt r plan s.until s.kept n e entity → law plan line s n e entity)
+
+-- the two ends of each mapping without delay are on one timeline, and that of the event had fewer than 10^12 events before
+-- number n
+pub record IsEarly {B S P : Type 0} (r : Reaction S P) (plan : Plan B S P) (line : ℕ → ℕ) (s : Scene (States B S P) (Event P)) (n : ℕ) (e : Event P) : Type 0 where
+  pub aligned : IsAligned plan line
+  pub few : spent_by r plan s.until s.kept line n e.entity < MostEvents
+
 -- a process of an entity with these in-channels: its wait names the entity's own, and ends by itself only if the process
 -- is timed
 pub record IsWaiting (ins : List ℕ) (p : Process) : Type 0 where
@@ -64,7 +81,7 @@ pub record IsHealthyEvent {B S P : Type 0} (carried : P → Type 0) (mappings : 
   pub on_channel : IsOnChannel carried x.entities mappings d.entity d.key d.kind
   pub number : d.key.number < x.counts d.key.channel
   pub round : d.key.round ≤ spent d.entity
-  pub time : d.key.time ≤ LatestTime + 2 * LongestDelay
+  pub time : d.key.time ≤ LatestPending
 
 -- a world of the plan's run: a channel's count is at most that of an opening and `MostSent` for each event that the
 -- timeline of the entity which writes on it has executed

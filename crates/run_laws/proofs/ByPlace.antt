@@ -16,96 +16,9 @@ use Rattle.ssf_model.specs.Channels.{Sent, sent_by, numbered, raised, counted}
 use Rattle.ssf_model.specs.Run.{States, acts_at, writes_at, machine_of, counts_of, world_after}
 use Rattle.ssf_model.specs.Scene.{Net, Scene, scene_of, world_at, event_at, time_of, channel_of}
 use Rattle.ssf_model.specs.Truth.{writes_within, writes_on, has_channel, IsWrite, IsRunWrite, IsStretch, IsPromise, IsTrueParcel}
-use Rattle.ssf_model.proofs.Lists.{different, place_of, place_more, place_among, among_place}
-
--- ---- writes of any run
-
-module _ {X E : Type 0} (s : Scene X E) where
-  -- what is in the list after some events is in it after more
-  later_more : (c n k m : ℕ) (d : E) → slice_get (writes_on s c n) k ≡ Some d → slice_get (writes_on s c (m + n)) k ≡ Some d
-  later_more c n k zero d h = rw zero-add h
-  later_more c n k (suc m) d h =
-      let joined = filter-append (has_channel s c) (writes_within s (m + n)) (flat_map (s.machine.writes (world_at s (m + n)).state) (option_list (event_at s (m + n)))) in
-      rw (suc-add, joined) (place_more _ _ k d (later_more c n k m d h))
-
-  pub one_write : (c k : ℕ) (d e : E) → IsWrite s c k d → IsWrite s c k e → d ≡ e
-  one_write c k d e first second =
-      let one = later_more c first.within k second.within d first.is in
-      let two = later_more c second.within k first.within e second.is in
-      let same : second.within + first.within ≡ first.within + second.within = omega arith in
-      let both : Some d ≡ Some e = sym one ∙ (ap (λ n. slice_get (writes_on s c n) k) same ∙ two) in
-      cc
-
-  pub has_write : (d : E) → IsRunWrite s d → (k : ℕ) × IsWrite s (channel_of s d) k d
-  has_write d is =
-      let c = channel_of s d in
-      let told : Among d (flat_map (s.machine.writes (world_at s is.at).state) (option_list (event_at s is.at))) = rw (is.is, append-nil) is.written in
-      let all : Among d (writes_on s c (suc is.at)) = among_filter (has_channel s c) d (writes_within s (suc is.at)) (among_append_right d (writes_within s is.at) _ told) (eq-eqb c c refl) in
-      let found = among_place d _ all in
-      (found.0, record { within = suc is.at; is = found.1 })
-
-  -- a write by one event
-  by_event : (n : ℕ) (d : E) (o : Option E) → event_at s n ≡ o → Among d (flat_map (s.machine.writes (world_at s n).state) (option_list o)) → IsRunWrite s d
-  by_event n d None is a = absurd a
-  by_event n d (Some e) is a = record { at = n; by = e; is = is; written = subst (λ (ds : List E). Among d ds) (append-nil (s.machine.writes (world_at s n).state e)) a }
-
-  by_some : (n : ℕ) (d : E) → Among d (writes_within s n) → IsRunWrite s d
-  by_some zero d a = absurd a
-  by_some (suc n) d a = elim (append_among d (writes_within s n) _ a) [ inl before ↦ by_some n d before | inr now ↦ by_event n d (event_at s n) refl now ]
-
-  pub is_written : (c k : ℕ) (d : E) → IsWrite s c k d → IsRunWrite s d
-  is_written c k d is = by_some is.within d (filter_among (has_channel s c) d (writes_within s is.within) (place_among _ k d is.is)).among
-
-  pub write_channel : (c k : ℕ) (d : E) → IsWrite s c k d → channel_of s d ≡ c
-  write_channel c k d is = eqb-true (channel_of s d) c (filter_among (has_channel s c) d (writes_within s is.within) (place_among _ k d is.is)).passes
-
-  -- ---- stretches
-
-  pub stretch_length : (c first end : ℕ) (ds : List E) → IsStretch s c first ds end → end ≡ first + length ds
-  stretch_length c first end [] h = omega (arith, h)
-  stretch_length c first end (d ∷ ds) h = omega (arith, stretch_length c (suc first) end ds h.1)
-
-  pub stretch_at : (c first end : ℕ) (ds : List E) → IsStretch s c first ds end → (j : ℕ) (d : E) → slice_get ds j ≡ Some d → IsWrite s c (first + j) d
-  stretch_at c first end [] h j d at = absurd (cc)
-  stretch_at c first end (x ∷ ds) h zero d at =
-      let same : x ≡ d = cc in
-      let place : first ≡ first + 0 = omega arith in
-      subst (λ n. IsWrite s c n d) place (subst (λ y. IsWrite s c first y) same h.0)
-  stretch_at c first end (x ∷ ds) h (suc j) d at =
-      let place : suc first + j ≡ first + suc j = omega arith in
-      subst (λ n. IsWrite s c n d) place (stretch_at c (suc first) end ds h.1 j d at)
-
-  pub stretch_of : (c first : ℕ) (ds : List E) (end : ℕ) → end ≡ first + length ds → ((j : ℕ) (d : E) → slice_get ds j ≡ Some d → IsWrite s c (first + j) d) → IsStretch s c first ds end
-  stretch_of c first [] end long h = omega arith
-  stretch_of c first (x ∷ ds) end long h = (
-    (let place : first + 0 ≡ first = omega arith in subst (λ n. IsWrite s c n x) place (h 0 x refl)),
-    stretch_of c (suc first) ds end (omega arith) (λ j d at. let place : first + suc j ≡ suc first + j = omega arith in subst (λ n. IsWrite s c n d) place (h (suc j) d at)),
-  )
-
-  pub stretch_joined : (c first between end : ℕ) (xs ys : List E) → IsStretch s c first xs between → IsStretch s c between ys end → IsStretch s c first (xs ++ ys) end
-  stretch_joined c first between end [] ys a b = subst (λ n. IsStretch s c n ys end) (sym a) b
-  stretch_joined c first between end (x ∷ xs) ys a b = (a.0, stretch_joined c (suc first) between end xs ys a.1 b)
-
-  -- ---- parcels
-
-  pub parcels_agree : (c first end bound first' end' bound' : ℕ) (ds es : List E) → IsTrueParcel s c first ds end bound → IsTrueParcel s c first' es end' bound'
-      → (i j : ℕ) (d e : E) → first + i ≡ first' + j → slice_get ds i ≡ Some d → slice_get es j ≡ Some e → d ≡ e
-  parcels_agree c first end bound first' end' bound' ds es p q i j d e same at there =
-      one_write c (first + i) d e (stretch_at c first end ds p.events i d at) (subst (λ n. IsWrite s c n e) (sym same) (stretch_at c first' end' es q.events j e there))
-
-  pub parcel_whole : (c first end bound : ℕ) (ds : List E) → s.net.appointed c ≡ true → IsTrueParcel s c first ds end bound → (k : ℕ) (d : E) → IsWrite s c k d → time_of s d < bound
-      → (k < first) ⊎ Among d ds
-  parcel_whole c first end bound ds own is k d write early =
-      let below : k < end = is.promise own k d write early in
-      elim (lt_or_ge k first) [
-        | inl before ↦ inl before
-        | inr later ↦
-            let rest = difference first k later in
-            let place : rest.0 < length ds = omega (arith, rest.1, stretch_length c first end ds is.events) in
-            let there = place_of ds rest.0 place in
-            let held : IsWrite s c k there.0 = let sum : first + rest.0 ≡ k = omega (arith, rest.1) in subst (λ n. IsWrite s c n there.0) sum (stretch_at c first end ds is.events rest.0 there.0 there.1) in
-            inr (place_among ds rest.0 d (there.1 ∙ ap (λ z. Some z) (one_write c k there.0 d held write)))
-      ]
+use Rattle.run_laws.specs.Numbers.{HasNumbersBelow, AreNumbered}
+use Rattle.ssf_model.proofs.Lists.{different}
+use Rattle.ssf_model.proofs.Places.{has_write, is_written, write_channel, stretch_at, stretch_of, parcel_whole}
 
 -- ---- numbers
 
@@ -249,14 +162,14 @@ module _ {B S P : Type 0} (r : Reaction S P) (plan : Plan B S P) (until : ℕ) (
 
   -- ---- promises
 
-  pub promise_tells : (c bound n : ℕ) → IsPromise run c bound n → (d : Event P) → IsRunWrite run d → d.key.channel ≡ c → d.key.time < bound → d.key.number < counts_of plan.counts c + n
+  pub promise_tells : (c bound n : ℕ) → IsPromise run c bound n → HasNumbersBelow run (counts_of plan.counts c + n) c bound
   promise_tells c bound n promise d is own early =
       let found = place_on c d is own in
       let below = promise found.0 d found.1 (rw (own_time d) early) in
       let number = write_number c found.0 d found.1 in
       omega arith
 
-  pub promise_told : (c bound n : ℕ) → ((d : Event P) → IsRunWrite run d → d.key.channel ≡ c → d.key.time < bound → d.key.number < counts_of plan.counts c + n) → IsPromise run c bound n
+  pub promise_told : (c bound n : ℕ) → HasNumbersBelow run (counts_of plan.counts c + n) c bound → IsPromise run c bound n
   promise_told c bound n told k d is early =
       let below = told d (is_written run c k d is) (channel_is c k d is) (rw (← own_time d) early) in
       let number = write_number c k d is in
@@ -271,14 +184,11 @@ module _ {B S P : Type 0} (r : Reaction S P) (plan : Plan B S P) (until : ℕ) (
       let number = write_number c found.0 d found.1 in
       elim (parcel_whole run c first end bound ds appointed is found.0 d found.1 (rw (own_time d) early)) [ inl before ↦ inl (omega arith) | inr a ↦ inr a ]
 
-  pub stretch_tells : (c first end : ℕ) (ds : List (Event P)) → IsStretch run c first ds end → (j : ℕ) (d : Event P) → slice_get ds j ≡ Some d
-      → IsRunWrite run d × (d.key.channel ≡ c) × (d.key.number ≡ counts_of plan.counts c + (first + j))
+  pub stretch_tells : (c first end : ℕ) (ds : List (Event P)) → IsStretch run c first ds end → AreNumbered run c (counts_of plan.counts c + first) ds
   stretch_tells c first end ds is j d at =
-      let w = stretch_at run c first end ds is j d at in (is_written run c (first + j) d w, channel_is c (first + j) d w, write_number c (first + j) d w)
+      let w = stretch_at run c first end ds is j d at in (is_written run c (first + j) d w, channel_is c (first + j) d w, let number = write_number c (first + j) d w in omega arith)
 
-  pub stretch_told : (c first end : ℕ) (ds : List (Event P)) → end ≡ first + length ds
-      → ((j : ℕ) (d : Event P) → slice_get ds j ≡ Some d → IsRunWrite run d × (d.key.channel ≡ c) × (d.key.number ≡ counts_of plan.counts c + (first + j)))
-      → IsStretch run c first ds end
+  pub stretch_told : (c first end : ℕ) (ds : List (Event P)) → end ≡ first + length ds → AreNumbered run c (counts_of plan.counts c + first) ds → IsStretch run c first ds end
   stretch_told c first end ds long told = stretch_of run c first ds end long (λ j d at.
       let has = told j d at in
       let found = place_on c d has.0 has.1 in

@@ -3,4 +3,4 @@ pub mod OfPlans
 pub mod Opens
 pub mod Continuing
 pub mod ByPlace
-pub mod Windows
+pub mod Histories

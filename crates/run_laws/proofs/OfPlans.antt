@@ -4,8 +4,8 @@ use Rattle.event_order.specs.declared.key.Key.{Key}
 use Rattle.event_order.specs.Order.{IsBefore}
 use Rattle.event_order.specs.Pending.{Among, IsRising}
 use Rattle.event_order.specs.Machine.{World, due, within, all_kept}
-use Rattle.event_order.specs.Run.{WrittenBefore, ExecutedWithin, Arises, Chain}
-use Rattle.event_order.proofs.Steps.{event_arises, ended_later, ended_after}
+use Rattle.event_order.specs.Run.{WrittenBefore, ExecutedWithin, Arises, Run, Numbered, Chain}
+use Rattle.event_order.proofs.Steps.{event_arises}
 use Rattle.event_order.proofs.Keys.{keys_rise, pending_rises, one_key, pending_executed}
 use Rattle.event_order.proofs.Rounds.{rounds, first_events_same, cut_same}
 use Rattle.event_order.proofs.Finite.{finite}
@@ -39,8 +39,11 @@ module _ {B S P : Type 0} (r : Reaction S P) (plan : Plan B S P) (until : ℕ) (
   plan_pending_executed kept n end e h o a t =
       pending_executed (machine_of {B = B} r plan.mappings) until kept (opening plan) (known r plan.mappings) (lawful r plan.mappings) (opened r plan opens) end n e o h a t
 
+  abbrev pub run_with : (Key → Bool) → Run (States B S P) (Event P)
+  run_with kept = record { machine = machine_of r plan.mappings; until = until; kept = kept; opening = opening plan }
+
   pub plan_rounds : (kept : Key → Bool) (n : ℕ) (e : Event P) → run_event r plan until kept n ≡ Some e →
-      Chain (machine_of {B = B} r plan.mappings) until kept (opening plan) (λ p d. Unit {0}) n e e.key.round
+      Chain (run_with kept) (λ p d. Unit {0}) (record { number = n; event = e }) e.key.round
   unfolding machine_of
   plan_rounds kept n e h =
       rounds (machine_of {B = B} r plan.mappings) until kept (opening plan) (fine r plan.mappings) (λ p d. Unit {0}) (has_rounds r plan.mappings)
@@ -70,10 +73,3 @@ module _ {B S P : Type 0} (r : Reaction S P) (plan : Plan B S P) (until : ℕ) (
 pub plan_events_arise : {B S P : Type 0} (r : Reaction S P) (plan : Plan B S P) (until : ℕ) (kept : Key → Bool) (n : ℕ) (e : Event P) → run_event r plan until kept n ≡ Some e →
     Among e plan.events ⊎ WrittenBefore (machine_of {B = B} r plan.mappings) until kept (opening plan) n e
 plan_events_arise {B = B} r plan until kept n e h = event_arises (machine_of {B = B} r plan.mappings) until kept (opening plan) n e h
-
-module _ {B S P : Type 0} (r : Reaction S P) (plan : Plan B S P) (until : ℕ) (kept : Key → Bool) (n k : ℕ) (later : n ≤ k) where
-  pub plan_ended_later : run_event r plan until kept n ≡ None → run_event r plan until kept k ≡ None
-  plan_ended_later h = ended_later (machine_of {B = B} r plan.mappings) until kept (opening plan) n k later h
-
-  pub plan_ended_after : run_event r plan until kept n ≡ None → world_after r plan until kept k ≡ world_after r plan until kept n
-  plan_ended_after h = ended_after (machine_of {B = B} r plan.mappings) until kept (opening plan) n k later h

@@ -78,13 +78,13 @@ module _ {S P : Type 0} (r : Reaction S P) (now : ℕ) (kind : Kind P) where
       )
 
 -- a choice that comes to something was made, and that is what it comes to
-chosen : {A : Type 0} (b : Bool) (x y : A) → cond b (Some x) None ≡ Some y → (b ≡ true) × (x ≡ y)
+pub chosen : {A : Type 0} (b : Bool) (x y : A) → cond b (Some x) None ≡ Some y → (b ≡ true) × (x ≡ y)
 chosen b x y = elim b as (λ v. cond v (Some x) None ≡ Some y → (v ≡ true) × (x ≡ y)) [ true ↦ (λ e. (refl, cc)) | false ↦ (λ e. cc) ]
 
-both_hold : (a b : Bool) → (a && b) ≡ true → (a ≡ true) × (b ≡ true)
+pub both_hold : (a b : Bool) → (a && b) ≡ true → (a ≡ true) × (b ≡ true)
 both_hold a b = elim a as (λ v. (v && b) ≡ true → (v ≡ true) × (b ≡ true)) [ true ↦ (λ e. (refl, e)) | false ↦ (λ e. cc) ]
 
-admitted : {P : Type 0} (kind : Kind P) (i : ℕ) (p : Process) (ps : List Process) (wake : Wake P) →
+pub admitted : {P : Type 0} (kind : Kind P) (i : ℕ) (p : Process) (ps : List Process) (wake : Wake P) →
     slice_get ps i ≡ Some p → IsTimely kind ps → wake_of kind i p ≡ Some wake → Admits p.wait wake
 admitted Begin i p ps wake place t e = let q : BeginWake ≡ wake = cc in subst (λ v. Admits p.wait v) q tt
 admitted (Timer process ticket) i p ps wake place t e =

@@ -11,3 +11,6 @@ pub mod Reopened
 pub mod Lists
 pub mod Counts
 pub mod Entries
+pub mod Places
+pub mod Windows
+pub mod Histories

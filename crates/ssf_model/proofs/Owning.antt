@@ -1,5 +1,5 @@
 -- Each call of a builder keeps who owns the channels of its draft.
-use Rattle.std.proofs.Common.{ℕ, zero, suc, ◌≡◌, ◌⊎◌, ◌+◌, ◌<◌, ◌≤◌, ◌^◌, ◌∙◌, sym, ap, subst, refl, inl, inr, Bool, List, [], ◌∷◌, ◌++◌, length, Option, Some, None, slice_get, slice_set, slice_index, nat_le, nat_lt, arith, zero-add, option_map, length-append, length-set}
+use Rattle.std.proofs.Common.{ℕ, zero, suc, ◌≡◌, ◌⊎◌, ◌+◌, ◌<◌, ◌≤◌, ◌^◌, ◌∙◌, sym, ap, subst, refl, inl, inr, Bool, List, [], ◌∷◌, ◌++◌, length, Option, Some, None, slice_get, slice_set, slice_index, nat_le, nat_lt, arith, zero-add, option_map, length-append, length-set, append-nil}
 use Rattle.std.specs.List.{range_with_len}
 use Rattle.std.specs.List.Sorted.{IsStrictlyIncreasing}
 use Rattle.std.proofs.Math.ListN.{get_or-append}
@@ -203,17 +203,13 @@ drawn_more ins outs more_ins more_outs m is = record {
   priority = is.priority;
 }
 
-append_none : {T : Type 0} (xs : List T) → xs ++ [] ≡ xs
-append_none [] = refl
-append_none (x ∷ xs) = ap (λ ys. x ∷ ys) (append_none xs)
-
 drawn_in : (ins outs : List ℕ) (place : ℕ) (ms : List Mapping) → Each (IsDrawn ins outs) ms → Each (IsDrawn (ins ++ place ∷ []) outs) ms
 drawn_in ins outs place ms each =
-    each_to (IsDrawn ins outs) (IsDrawn (ins ++ place ∷ []) outs) ms (λ m is. subst (λ (os : List ℕ). IsDrawn (ins ++ place ∷ []) os m) (append_none outs) (drawn_more ins outs (place ∷ []) [] m is)) each
+    each_to (IsDrawn ins outs) (IsDrawn (ins ++ place ∷ []) outs) ms (λ m is. subst (λ (os : List ℕ). IsDrawn (ins ++ place ∷ []) os m) (append-nil outs) (drawn_more ins outs (place ∷ []) [] m is)) each
 
 drawn_out : (ins outs : List ℕ) (place : ℕ) (ms : List Mapping) → Each (IsDrawn ins outs) ms → Each (IsDrawn ins (outs ++ place ∷ [])) ms
 drawn_out ins outs place ms each =
-    each_to (IsDrawn ins outs) (IsDrawn ins (outs ++ place ∷ [])) ms (λ m is. subst (λ (is : List ℕ). IsDrawn is (outs ++ place ∷ []) m) (append_none ins) (drawn_more ins outs [] (place ∷ []) m is)) each
+    each_to (IsDrawn ins outs) (IsDrawn ins (outs ++ place ∷ [])) ms (λ m is. subst (λ (is : List ℕ). IsDrawn is (outs ++ place ∷ []) m) (append-nil ins) (drawn_more ins outs [] (place ∷ []) m is)) each
 
 -- ---- the calls
 

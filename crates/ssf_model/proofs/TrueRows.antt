@@ -1,6 +1,5 @@
 -- Shares, writes, parcels and windows of worked runs, computed from the definitions.
-use Rattle.std.proofs.Common.{◌≡◌, ℕ, zero, suc, ◌+◌, Bool, true, false, nat_eq, List, [], ◌∷◌, map, cond, nat_le, refl, Option, Some, None}
-use Rattle.event_order.specs.declared.key.Key.{Key}
+use Rattle.std.proofs.Common.{◌≡◌, ℕ, Bool, true, false, nat_eq, List, [], ◌∷◌, map, cond, nat_le, refl, Option, Some, None}
 use Rattle.event_order.specs.Order.{comes_before}
 use Rattle.event_order.specs.Machine.{all_kept}
 use Rattle.ssf_model.specs.declared.wait.Wait.TheVariants.{On}

@@ -1,5 +1,5 @@
 -- The wake rule: what an event makes of its entity. The processes that it wakes act one after another, in their order.
-use Rattle.std.specs.Prelude.{ℕ, ◌≡◌, ◌≤◌, ◌+◌, Bool, false, cond, ◌&&◌, nat_eq, List, [], ◌∷◌, ◌++◌, map, Option, Some, None, IfSome, slice_get}
+use Rattle.std.specs.Prelude.{ℕ, ◌≤◌, ◌+◌, Bool, false, cond, ◌&&◌, nat_eq, List, [], ◌∷◌, ◌++◌, map, Option, Some, None, IfSome, slice_get}
 use Rattle.std.specs.List.{count_by}
 use Rattle.ssf_model.specs.declared.wait.Wake.{Wake}
 use Rattle.ssf_model.specs.declared.wait.Wake.TheVariants.{Begin as BeginWake, Timer as TimerWake, Message as MessageWake}
@@ -9,7 +9,7 @@ use Rattle.ssf_model.specs.declared.out.Written.{Written}
 use Rattle.ssf_model.specs.declared.out.Written.TheVariants.{Channel, Timer as TimerWrite}
 use Rattle.ssf_model.specs.declared.event.Line.{Line}
 use Rattle.ssf_model.specs.declared.process.Process.{Process}
-use Rattle.ssf_model.specs.Wake.{waits_on, timer_delay, HasTimer}
+use Rattle.ssf_model.specs.Wake.{waits_on, timer_delay, IsTimelyTicket}
 use Rattle.ssf_model.specs.Reaction.{Reaction, Validity, LatestTime, is_timed, wait_of}
 
 -- how an event of this kind wakes process number i, if it does: a start wakes every process, the end of a wait the
@@ -53,9 +53,9 @@ delivered r now kind i s (p ∷ ps) =
     let rest = delivered r now kind (i + 1) first.state ps in
     record { state = rest.state; processes = first.process ∷ rest.processes; writes = first.writes ++ rest.writes; lines = first.lines ++ rest.lines }
 
--- the end of a wait carries its process's present ticket only where that process waits for it
+-- the end of a wait carries a ticket by the rule of tickets
 abbrev pub IsTimely : {P : Type 0} → Kind P → List Process → Type 0
-IsTimely (Timer process ticket) ps = IfSome (slice_get ps process) (λ p. ticket ≡ p.ticket → HasTimer p.wait)
+IsTimely (Timer process ticket) ps = IfSome (slice_get ps process) (λ p. IsTimelyTicket p.wait p.ticket ticket)
 IsTimely Begin ps = Unit {0}
 IsTimely (Message channel payload) ps = Unit {0}
 

@@ -157,7 +157,7 @@ abbrev pub IsValidDraft : {S : Type 0} → Validity S → DraftEntity S → Type
 IsValidDraft valid d = valid d.state d.in_channels d.out_channels d.timed (replicate (length d.timed) Forever)
 
 -- what holds of every draft, of which the code counts the timed processes
-pub record IsInRange {B S : Type 0} (timed : ℕ) (d : Draft B S) : Type 0 where
+pub record IsCountedDraft {B S : Type 0} (timed : ℕ) (d : Draft B S) : Type 0 where
   pub timed_is : timed ≡ all_timers d.entities
   pub channels : channels_of d ≤ MostChannels
   pub ins : length d.in_owners ≤ MostEnds

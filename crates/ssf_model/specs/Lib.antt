@@ -10,3 +10,4 @@ pub mod Run
 pub mod Wake
 pub mod Scene
 pub mod Truth
+pub mod Runs

@@ -7,7 +7,7 @@ use Rattle.ssf_model.specs.declared.builder.OutChannel.{OutChannel}
 use Rattle.ssf_model.specs.declared.plan.Mapping.{Mapping}
 use Rattle.ssf_model.specs.Reaction.{Each, LongestDelay}
 use Rattle.ssf_model.specs.Run.{HasAt}
-use Rattle.ssf_model.specs.Drafts.{Draft, IsInRange}
+use Rattle.ssf_model.specs.Drafts.{Draft, IsCountedDraft}
 
 -- `lists` gives each entity's own channels, and `owners` the entity of each channel: a channel is in the list of its
 -- owner, and in no other, and each list rises
@@ -42,5 +42,5 @@ IsOwned d = HasOwners d
 
 -- what holds of every draft that a builder holds
 pub record IsDraft {B S : Type 0} (timed : ℕ) (d : Draft B S) : Type 0 where
-  pub range : IsInRange timed d
+  pub range : IsCountedDraft timed d
   pub owned : IsOwned d

@@ -1,5 +1,5 @@
 -- Plans, and the run of a plan: its events one by one in the order of their keys.
-use Rattle.std.specs.Prelude.{ℕ, ◌≡◌, ◌+◌, ◌<◌, ◌≤◌, ◌^◌, zero, suc, Bool, List, [], ◌++◌, map, length, Option, Some, None, option_map, option_to_list, slice_get, slice_set, slice_index}
+use Rattle.std.specs.Prelude.{ℕ, ◌≡◌, ◌+◌, ◌*◌, ◌<◌, ◌≤◌, ◌^◌, zero, suc, Bool, List, [], ◌++◌, map, length, Option, Some, None, option_map, option_to_list, slice_get, slice_set, slice_index}
 use Rattle.std.specs.List.{flat_map, range_with_len}
 use Rattle.std.specs.List.Sorted.{IsStrictlyIncreasing}
 use Rattle.event_order.specs.declared.key.Key.{Key}
@@ -13,8 +13,8 @@ use Rattle.ssf_model.specs.declared.process.Process.{Process}
 use Rattle.ssf_model.specs.declared.entity.Entity.{Entity}
 use Rattle.ssf_model.specs.declared.plan.Mapping.{Mapping}
 use Rattle.ssf_model.specs.declared.plan.Plan.{Plan}
-use Rattle.ssf_model.specs.Wake.{HasTimer}
-use Rattle.ssf_model.specs.Reaction.{Reaction, Validity, Each, channels_named, LongestDelay}
+use Rattle.ssf_model.specs.Wake.{HasTimer, IsTimelyTicket}
+use Rattle.ssf_model.specs.Reaction.{Reaction, Validity, Each, channels_named, LatestTime, LongestDelay}
 use Rattle.ssf_model.specs.Drafts.{MostChannels, MostEnds}
 use Rattle.ssf_model.specs.Entities.{IsValidEntity}
 use Rattle.ssf_model.specs.Channels.{delivered_to, entity_after, sent_by, counted, numbered}
@@ -80,7 +80,7 @@ abbrev pub MostBefore : ℕ
 MostBefore = 1000000000000000000
 
 abbrev pub LatestPending : ℕ
-LatestPending = 1002000000000000000
+LatestPending = LatestTime + 2 * LongestDelay
 
 -- there is an element of this number, and P holds of it
 abbrev pub HasAt : {T : Type 0} → List T → ℕ → (T → Type 0) → Type 0
@@ -108,12 +108,12 @@ pub record IsProcessOf (ins : List ℕ) (p : Process) : Type 0 where
   pub untimed : p.timer ≡ None → HasTimer p.wait → ⊥
   pub ticket : p.ticket ≤ MostTicket
 
--- a pending end of a wait: on the timer channel of its process, with a ticket that the process gave out; it is the
--- present one only of a process whose wait ends by itself
+-- a pending end of a wait: on the timer channel of its process, with a ticket that the process gave out, by the rule of
+-- tickets
 pub record IsEndFor (channel ticket : ℕ) (p : Process) : Type 0 where
   pub on : p.timer ≡ Some channel
   pub given : ticket ≤ p.ticket
-  pub ends : ticket ≡ p.ticket → HasTimer p.wait
+  pub ends : IsTimelyTicket p.wait p.ticket ticket
 
 -- a message stands on the channel of a mapping that leads to its entity and in-channel
 pub record IsMessageOn (e : ℕ) (key : Key) (channel : ℕ) (m : Mapping) : Type 0 where

@@ -2,6 +2,7 @@
 use Rattle.std.specs.Prelude.{ℕ, Bool, Option}
 use Rattle.event_order.specs.declared.key.Key.{Key}
 use Rattle.event_order.specs.Machine.{Machine, World, after, event}
+use Rattle.event_order.specs.Run.{Run}
 use Rattle.ssf_model.specs.declared.event.Event.{Event}
 use Rattle.ssf_model.specs.declared.event.Entry.{Entry}
 use Rattle.ssf_model.specs.declared.plan.Plan.{Plan}
@@ -43,6 +44,10 @@ scene_of r plan until kept line net = record {
   entry = λ x e. entry_at r x.entities e;
   net = net;
 }
+
+-- its run alone
+abbrev pub run_of : {X E : Type 0} → Scene X E → Run X E
+run_of s = record { machine = s.machine; until = s.until; kept = s.kept; opening = s.opening }
 
 -- the world after the first n events, and event number n, counted from 0
 abbrev pub world_at : {X E : Type 0} → Scene X E → ℕ → World X E

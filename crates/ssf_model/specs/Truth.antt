@@ -1,6 +1,6 @@
 -- Facts on a run alone: which of its events are on a timeline, which of its writes has which place on a channel, what a
 -- promise says, which parcels are true, where windows stand, and what a timeline holds at a moment of the run.
-use Rattle.std.specs.Prelude.{ℕ, zero, suc, ◌≡◌, ◌+◌, ◌<◌, ◌≤◌, ◌⊎◌, Bool, true, false, cond, nat_eq, nat_lt, nat_le, min, List, [], ◌∷◌, ◌++◌, length, Option, Some, None, option_map, slice_get}
+use Rattle.std.specs.Prelude.{ℕ, zero, suc, ◌≡◌, ◌+◌, ◌<◌, ◌≤◌, Bool, true, false, cond, nat_eq, nat_lt, nat_le, min, List, [], ◌∷◌, ◌++◌, length, Option, Some, None, option_map, slice_get}
 use Rattle.std.specs.List.{filter, flat_map}
 use Rattle.event_order.specs.Pending.{Among, IsRising}
 use Rattle.event_order.specs.Machine.{option_list}
@@ -31,6 +31,10 @@ abbrev pub entries_that : {X E : Type 0} → Scene X E → (E → Bool) → ℕ 
 entries_that s test zero = []
 entries_that s test (suc n) = entries_that s test n ++ flat_map (λ e. cond (test e) (s.entry (world_at s n).state e ∷ []) []) (option_list (event_at s n))
 
+-- the entries of all of them
+abbrev pub all_entries : {X E : Type 0} → Scene X E → ℕ → List Entry
+all_entries s n = entries_that s (λ e. true) n
+
 -- the entries of timeline i, which it keeps as its history
 abbrev pub line_entries : {X E : Type 0} → Scene X E → ℕ → ℕ → List Entry
 line_entries s i n = entries_that s (is_on_line s i) n
@@ -38,6 +42,20 @@ line_entries s i n = entries_that s (is_on_line s i) n
 -- the entries of those of the first n events that come before a time
 abbrev pub entries_below : {X E : Type 0} → Scene X E → ℕ → ℕ → List Entry
 entries_below s bound n = entries_that s (λ e. nat_lt (time_of s e) bound) n
+
+-- each event of the run before the time v is one of the first n
+abbrev pub IsPassed : {X E : Type 0} → Scene X E → ℕ → ℕ → Type 0
+IsPassed {X} {E} s v n = (j : ℕ) (e : E) → event_at s j ≡ Some e → time_of s e < v → j < n
+
+-- each timeline i has reached the time v at its moment: its events before v are among the first `at i` of the run
+abbrev pub HasReached : {X E : Type 0} → Scene X E → ℕ → (ℕ → ℕ) → Type 0
+HasReached {X} {E} s v at = (j : ℕ) (e : E) → event_at s j ≡ Some e → time_of s e < v → j < at (s.line e)
+
+-- these are, in key order, the entries before the time v that the timelines have kept, each at a moment of its own
+pub record IsMerged {X E : Type 0} (s : Scene X E) (v : ℕ) (at : ℕ → ℕ) (entries : List Entry) : Type 0 where
+  pub rising : IsRising (λ x. x.key) entries
+  pub from : (x : Entry) → Among x entries → (i : ℕ) × Among x (line_entries s i (at i)) × (x.key.time < v)
+  pub whole : (x : Entry) (i : ℕ) → Among x (line_entries s i (at i)) → x.key.time < v → Among x entries
 
 -- ---- writes
 

@@ -1,5 +1,5 @@
 -- The wake rule's words: which process an event wakes, and when a wait ends by itself.
-use Rattle.std.specs.Prelude.{ℕ, Bool, false, nat_eq, max, Option, Some, None, IsSome}
+use Rattle.std.specs.Prelude.{ℕ, ◌≡◌, Bool, false, nat_eq, max, Option, Some, None, IsSome}
 use Rattle.std.specs.List.{list_any}
 use Rattle.ssf_model.specs.declared.wait.Wait.{Wait}
 use Rattle.ssf_model.specs.declared.wait.Wait.TheVariants.{On, For, OnFor, Forever}
@@ -21,3 +21,8 @@ timer_delay Forever = None
 -- the wait ends by itself
 abbrev pub HasTimer : Wait → Type 0
 HasTimer wait = IsSome (timer_delay wait)
+
+-- the rule of tickets: the end of a wait carries the present ticket of its process, which waits so, only where that wait
+-- ends by itself
+abbrev pub IsTimelyTicket : Wait → ℕ → ℕ → Type 0
+IsTimelyTicket wait present ticket = ticket ≡ present → HasTimer wait

@@ -6,7 +6,7 @@ ghost use Rattle.std.specs.List.{range_with_len, AllZip};
 ghost use Rattle.std.specs.List.Sorted.{IsStrictlyIncreasing};
 ghost use Rattle.event_order.specs.Pending.{Among, IsRising};
 ghost use Rattle.ssf_model.specs.declared.plan.Mapping.{Mapping as MappingValue};
-ghost use Rattle.ssf_model.specs.Wake.{HasTimer};
+ghost use Rattle.ssf_model.specs.Wake.{IsTimelyTicket};
 ghost use Rattle.ssf_model.specs.Reaction.{Each};
 ghost use Rattle.ssf_model.specs.Run.{Fits, HasAt, IsWired, IsPending, IsOnChannel, IsEndFor, IsMessageOn, LatestPending, MostBefore, MostCount, counts_of};
 ghost use Rattle.ssf_model.specs.Openings.{IsAsLong, HasShape, IsOpeningOf, MayOpen, MayWait, reopened, reopened_entity, reopened_entities, reopened_processes};
@@ -59,7 +59,7 @@ impl<B: Behaviour> Plan<B> {
             return false;
         }
         let entities = self.entities.as_slice();
-        if !may_all_open(&self.behaviour, entities, opening.entities.as_slice()) {
+        if !can_all_open(&self.behaviour, entities, opening.entities.as_slice()) {
             return false;
         }
         are_rising(opening.pending.as_slice()) && are_pending(self, opening)
@@ -160,7 +160,7 @@ fn are_at_most(numbers: &[u64], most: u64) -> bool
 }
 
 /// Whether entities may open so, one by one.
-fn may_all_open<B: Behaviour>(behaviour: &B, entities: &[Entity<B>], opened: &[Opened<B>]) -> bool
+fn can_all_open<B: Behaviour>(behaviour: &B, entities: &[Entity<B>], opened: &[Opened<B>]) -> bool
     requires few { Each (λ e. length e.processes ≤ 2 ^ 32) entities.now }
     requires rising { Each (λ e. IsStrictlyIncreasing e.in_channels) entities.now }
     ensures { IsTrue result ↔ AllZip (MayOpen (B.valid behaviour.now)) entities.now opened.now }
@@ -169,7 +169,7 @@ fn may_all_open<B: Behaviour>(behaviour: &B, entities: &[Entity<B>], opened: &[O
         return false;
     }
     for index in 0..entities.len() {
-        if !may_open(behaviour, &entities[index], &opened[index]) {
+        if !can_open(behaviour, &entities[index], &opened[index]) {
             return false;
         }
     }
@@ -177,7 +177,7 @@ fn may_all_open<B: Behaviour>(behaviour: &B, entities: &[Entity<B>], opened: &[O
 }
 
 /// Whether an entity may open so.
-fn may_open<B: Behaviour>(behaviour: &B, entity: &Entity<B>, opened: &Opened<B>) -> bool
+fn can_open<B: Behaviour>(behaviour: &B, entity: &Entity<B>, opened: &Opened<B>) -> bool
     requires few { length entity.now.processes ≤ 2 ^ 32 }
     requires rising { IsStrictlyIncreasing entity.now.in_channels }
     ensures { IsTrue result ↔ MayOpen (B.valid behaviour.now) entity.now opened.now }
@@ -193,17 +193,17 @@ fn may_open<B: Behaviour>(behaviour: &B, entity: &Entity<B>, opened: &Opened<B>)
     if !behaviour.is_valid(&opened.state, ins, outs, processes, waits) {
         return false;
     }
-    may_all_wait(ins, processes, waits) && are_at_most(tickets, MOST_TICKET)
+    can_all_wait(ins, processes, waits) && are_at_most(tickets, MOST_TICKET)
 }
 
 /// Whether processes of an entity with these in-channels may wait so, one by one.
-fn may_all_wait(ins: &[u32], processes: &[Process], waits: &[Wait]) -> bool
+fn can_all_wait(ins: &[u32], processes: &[Process], waits: &[Wait]) -> bool
     requires rising { IsStrictlyIncreasing ins.now }
     requires long { length waits.now ≡ length processes.now }
     ensures { IsTrue result ↔ AllZip (MayWait ins.now) processes.now waits.now }
 {
     for index in 0..processes.len() {
-        if !may_wait(ins, &processes[index], &waits[index]) {
+        if !can_wait(ins, &processes[index], &waits[index]) {
             return false;
         }
     }
@@ -211,7 +211,7 @@ fn may_all_wait(ins: &[u32], processes: &[Process], waits: &[Wait]) -> bool
 }
 
 /// Whether a process of an entity with these in-channels may wait so.
-fn may_wait(ins: &[u32], process: &Process, wait: &Wait) -> bool
+fn can_wait(ins: &[u32], process: &Process, wait: &Wait) -> bool
     requires { IsStrictlyIncreasing ins.now }
     ensures { IsTrue result ↔ MayWait ins.now process.now wait.now }
 {
@@ -259,7 +259,7 @@ fn are_pending<B: Behaviour>(plan: &Plan<B>, opening: &Opening<B>) -> bool
 {
     let pending = opening.pending.as_slice();
     for index in 0..pending.len() {
-        if !is_pending(plan, opening, &pending[index]) {
+        if !may_be_pending(plan, opening, &pending[index]) {
             return false;
         }
     }
@@ -267,7 +267,11 @@ fn are_pending<B: Behaviour>(plan: &Plan<B>, opening: &Opening<B>) -> bool
 }
 
 /// Whether the event may be pending at this opening of a plan.
-fn is_pending<B: Behaviour>(plan: &Plan<B>, opening: &Opening<B>, event: &Event<B::Payload>) -> bool
+fn may_be_pending<B: Behaviour>(
+    plan: &Plan<B>,
+    opening: &Opening<B>,
+    event: &Event<B::Payload>,
+) -> bool
     requires wired { IsWired plan.now }
     requires shape { HasShape plan.now opening.now }
     ensures { IsTrue result ↔ IsPending (B.carried plan.now.behaviour) (reopened plan.now opening.now) event.now }
@@ -275,7 +279,7 @@ fn is_pending<B: Behaviour>(plan: &Plan<B>, opening: &Opening<B>, event: &Event<
     if event.entity as usize >= plan.entities.len() {
         return false;
     }
-    is_early(opening.counts.as_slice(), &event.key) && is_on_channel(plan, opening, event)
+    is_early(opening.counts.as_slice(), &event.key) && stands_on_channel(plan, opening, event)
 }
 
 /// Whether an event with this key may be pending at an opening with these counts: in round 0, with a
@@ -290,7 +294,7 @@ fn is_early(counts: &[u64], key: &Key) -> bool
 }
 
 /// Whether the event, which is at an entity of the plan, stands on a channel for what it brings.
-fn is_on_channel<B: Behaviour>(
+fn stands_on_channel<B: Behaviour>(
     plan: &Plan<B>,
     opening: &Opening<B>,
     event: &Event<B::Payload>,
@@ -365,7 +369,7 @@ fn is_timer(process: &Process, channel: u32) -> bool
 
 /// Whether a process that waits so and has the ticket `present` gave out this ticket.
 fn is_given(wait: &Wait, present: u64, ticket: u64) -> bool
-    ensures { IsTrue result ↔ ((ticket ≤ present) × (ticket ≡ present → HasTimer wait.now)) }
+    ensures { IsTrue result ↔ ((ticket ≤ present) × IsTimelyTicket wait.now present ticket) }
 {
     if ticket == present {
         wait.delay().is_some()

@@ -1,4 +1,4 @@
-use Rattle.run_laws.proofs.ByPlace.{one_write}
+use Rattle.ssf_model.proofs.Places.{one_write}
 use Rattle.run_laws.proofs.laws.places_have_one_write.Goals as goal
 
 pub returns : goal.returns

@@ -4,7 +4,7 @@ use Rattle.run_laws.proofs.Continuing.{entries_go_on}
 use Rattle.run_laws.proofs.laws.runs_go_on.Goals as goal
 
 pub returns-clause-worlds : goal.returns-clause-worlds
-returns-clause-worlds g c = λ b plan until kept n k. goes_on (machine_of (g.B.Behaviour.reaction b) plan.mappings) until kept (opening plan) n k
+returns-clause-worlds g c = λ b plan until kept line net n k. goes_on (machine_of (g.B.Behaviour.reaction b) plan.mappings) until kept (opening plan) n k
 
 pub returns-clause-entries : goal.returns-clause-entries
-returns-clause-entries g c = λ b plan until kept n k. entries_go_on (g.B.Behaviour.reaction b) plan.mappings until kept (opening plan) n k
+returns-clause-entries g c = λ b plan until kept line net n k. entries_go_on (g.B.Behaviour.reaction b) plan.mappings until kept (opening plan) n k

@@ -1,5 +1,6 @@
 use Rattle.ssf_model.specs.Scene.{scene_of}
-use Rattle.run_laws.proofs.ByPlace.{stretch_length, stretch_tells, stretch_told}
+use Rattle.ssf_model.proofs.Places.{stretch_length}
+use Rattle.run_laws.proofs.ByPlace.{stretch_tells, stretch_told}
 use Rattle.run_laws.proofs.laws.stretches_by_numbers.Goals as goal
 
 pub returns-clause-end : goal.returns-clause-end

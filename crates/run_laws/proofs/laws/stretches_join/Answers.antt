@@ -1,4 +1,4 @@
-use Rattle.run_laws.proofs.ByPlace.{stretch_joined}
+use Rattle.ssf_model.proofs.Places.{stretch_joined}
 use Rattle.run_laws.proofs.laws.stretches_join.Goals as goal
 
 pub returns : goal.returns

@@ -1,4 +1,4 @@
-use Rattle.run_laws.proofs.ByPlace.{parcel_whole}
+use Rattle.ssf_model.proofs.Places.{parcel_whole}
 use Rattle.run_laws.proofs.laws.true_parcels_are_whole.Goals as goal
 
 pub returns : goal.returns

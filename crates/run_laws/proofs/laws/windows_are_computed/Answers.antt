@@ -1,4 +1,4 @@
-use Rattle.run_laws.proofs.Windows.{window_computed, computed_window}
+use Rattle.ssf_model.proofs.Windows.{window_computed, computed_window}
 use Rattle.run_laws.proofs.laws.windows_are_computed.Goals as goal
 
 pub returns-clause-tells : goal.returns-clause-tells

@@ -1,4 +1,4 @@
-use Rattle.run_laws.proofs.ByPlace.{has_write, is_written}
+use Rattle.ssf_model.proofs.Places.{has_write, is_written}
 use Rattle.run_laws.proofs.laws.writes_have_places.Goals as goal
 
 pub returns-clause-place : goal.returns-clause-place
