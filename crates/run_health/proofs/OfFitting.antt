@@ -1,9 +1,9 @@
 -- The laws of plans that fit: what writes what, rounds, and cuts that drop nothing.
-use Rattle.std.proofs.Common.{◌≡◌, ◌⊎◌, ℕ, ◌+◌, ◌≤◌, Bool, true, false, ◌&&◌, nat_eq, List, [], ◌∷◌, filter, length, refl, sym, ap, ◌∙◌, subst, inl, inr, arith, Some, slice_get, eqb-true, eq-eqb}
+use Rattle.std.proofs.Common.{◌≡◌, ◌⊎◌, ℕ, ◌+◌, ◌≤◌, Bool, true, ◌&&◌, nat_eq, List, [], ◌∷◌, filter, length, refl, sym, ap, ◌∙◌, subst, inl, inr, arith, Some, slice_get, eqb-true, eq-eqb}
 use Rattle.event_order.specs.declared.key.Key.{Key}
 use Rattle.event_order.specs.Pending.{Among}
 use Rattle.event_order.specs.Machine.{first_events}
-use Rattle.event_order.specs.Run.{Run, Numbered, Chain, share}
+use Rattle.event_order.specs.Run.{Run, Chain, share}
 use Rattle.event_order.specs.Laws.{HasRounds}
 use Rattle.event_order.proofs.Pending.{test_cases}
 use Rattle.event_order.proofs.Local.{share_own}

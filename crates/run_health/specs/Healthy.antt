@@ -11,11 +11,11 @@ use Rattle.ssf_model.specs.declared.entity.Entity.{Entity}
 use Rattle.ssf_model.specs.declared.plan.Mapping.{Mapping}
 use Rattle.ssf_model.specs.declared.plan.Plan.{Plan}
 use Rattle.ssf_model.specs.Wake.{HasTimer}
-use Rattle.ssf_model.specs.Reaction.{Reaction, Validity, LatestTime, Each, channels_named}
+use Rattle.ssf_model.specs.Reaction.{Reaction, Validity, Each, channels_named}
 use Rattle.ssf_model.specs.Deliver.{MostWrites}
 use Rattle.ssf_model.specs.Drafts.{MostChannels}
 use Rattle.ssf_model.specs.Entities.{IsValidEntity}
-use Rattle.ssf_model.specs.Run.{States, Fits, IsOnChannel, MostCount, MostTicket, LatestPending, machine_of, opening, run_event, world_after}
+use Rattle.ssf_model.specs.Run.{States, IsOnChannel, MostCount, MostTicket, LatestPending, machine_of, opening, run_event, world_after}
 use Rattle.ssf_model.specs.Scene.{Scene}
 use Rattle.ssf_model.specs.Runs.{OfEachFittingRun}
 use Rattle.run_health.specs.Groups.{IsWriterOn}

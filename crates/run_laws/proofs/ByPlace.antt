@@ -1,21 +1,21 @@
 -- The writes of a run on one channel have its numbers in a row, whether the cut keeps them or not.
-use Rattle.std.proofs.Common.{ℕ, zero, suc, ◌≡◌, ◌⊎◌, ◌+◌, ◌<◌, ◌∙◌, sym, ap, subst, refl, inl, inr, Bool, true, false, nat_eq, List, [], ◌∷◌, ◌++◌, length, Option, Some, None, slice_get, arith, zero-add, suc-add, append-nil, length-append, eqb-true, eq-eqb}
-use Rattle.std.specs.List.{filter, flat_map}
+use Rattle.std.proofs.Common.{ℕ, zero, suc, ◌≡◌, ◌⊎◌, ◌+◌, ◌<◌, ◌∙◌, sym, ap, subst, refl, inl, inr, Bool, true, false, nat_eq, List, [], ◌∷◌, ◌++◌, length, Option, Some, None, slice_get, arith, append-nil, length-append, eqb-true, eq-eqb}
+use Rattle.std.specs.List.{filter}
 use Rattle.std.proofs.lemmas.List.Elements.{filter-append}
 use Rattle.std.proofs.lemmas.Bool.Decides.{nat_tests}
 use Rattle.event_order.specs.declared.key.Key.{Key}
 use Rattle.event_order.specs.Pending.{Among}
-use Rattle.event_order.proofs.Pending.{test_cases, among_append_right, append_among, among_filter, filter_among}
-use Rattle.event_order.specs.Machine.{World, option_list}
-use Rattle.event_order.proofs.Steps.{step_cases, lt_or_ge, difference}
+use Rattle.event_order.proofs.Pending.{test_cases}
+use Rattle.event_order.specs.Machine.{World}
+use Rattle.event_order.proofs.Steps.{step_cases}
 use Rattle.ssf_model.specs.declared.event.Event.{Event}
 use Rattle.ssf_model.specs.declared.entity.Entity.{Entity}
 use Rattle.ssf_model.specs.declared.plan.Plan.{Plan}
 use Rattle.ssf_model.specs.Reaction.{Reaction}
 use Rattle.ssf_model.specs.Channels.{Sent, sent_by, numbered, raised, counted}
 use Rattle.ssf_model.specs.Run.{States, acts_at, writes_at, machine_of, counts_of, world_after}
-use Rattle.ssf_model.specs.Scene.{Net, Scene, scene_of, world_at, event_at, time_of, channel_of}
-use Rattle.ssf_model.specs.Truth.{writes_within, writes_on, has_channel, IsWrite, IsRunWrite, IsStretch, IsPromise, IsTrueParcel}
+use Rattle.ssf_model.specs.Scene.{Net, Scene, scene_of, time_of, channel_of}
+use Rattle.ssf_model.specs.Truth.{writes_within, writes_on, IsWrite, IsRunWrite, IsStretch, IsPromise, IsTrueParcel}
 use Rattle.run_laws.specs.Numbers.{HasNumbersBelow, AreNumbered}
 use Rattle.ssf_model.proofs.Lists.{different}
 use Rattle.ssf_model.proofs.Places.{has_write, is_written, write_channel, stretch_at, stretch_of, parcel_whole}

@@ -1,5 +1,5 @@
 -- The entries of a plan's run, those that its timelines keep, and those before a time.
-use Rattle.std.proofs.Common.{◌≡◌, ℕ, zero, suc, ◌<◌, ◌≤◌, ◌++◌, Bool, true, nat_eq, nat_lt, List, [], ◌∷◌, Option, Some, None, option_map, refl, ap, ◌∙◌, sym, slice_get}
+use Rattle.std.proofs.Common.{◌≡◌, ℕ, zero, suc, ◌<◌, ◌++◌, Bool, true, nat_eq, nat_lt, List, [], ◌∷◌, Option, Some, None, option_map, refl, ap, ◌∙◌, slice_get}
 use Rattle.std.specs.List.{filter, flat_map}
 use Rattle.event_order.specs.declared.key.Key.{Key}
 use Rattle.event_order.specs.Order.{IsBefore}

@@ -4,7 +4,7 @@ use Rattle.event_order.specs.declared.key.Key.{Key}
 use Rattle.event_order.specs.Order.{IsBefore}
 use Rattle.event_order.specs.Pending.{Among, IsRising}
 use Rattle.event_order.specs.Machine.{World, due, within, all_kept}
-use Rattle.event_order.specs.Run.{WrittenBefore, ExecutedWithin, Arises, Run, Numbered, Chain}
+use Rattle.event_order.specs.Run.{WrittenBefore, ExecutedWithin, Arises, Run, Chain}
 use Rattle.event_order.proofs.Steps.{event_arises}
 use Rattle.event_order.proofs.Keys.{keys_rise, pending_rises, one_key, pending_executed}
 use Rattle.event_order.proofs.Rounds.{rounds, first_events_same, cut_same}
