@@ -27,7 +27,7 @@ use Rattle.run_health.proofs.Along.{healthy_along, all_aligned}
 use Rattle.event_order.proofs.Shares.{share_length}
 use Rattle.global_list.specs.Posting.{IsSendable, IsPosted}
 use Rattle.ssf_model.specs.Run.{entry_at, entries_from}
-use Rattle.global_list.specs.Executed.{states_of, world_of, MayExecute, MayGoOn, IsExecuted, IsOneMore}
+use Rattle.global_list.specs.Executed.{states_of, world_of, Execution, MayExecute, MayGoOn, IsExecuted, IsOneMore}
 
 le_true : (a b : ℕ) → nat_le a b ≡ true → a ≤ b
 le_true a b h = grind (arith, common_steps)
@@ -115,7 +115,7 @@ module _ {B S P : Type 0} (r : Reaction S P) (ms : List Mapping) (until : ℕ) w
 
   -- what was executed is that step
   pub executed_step : (es0 es1 : List (Entity B S P)) (c0 c1 : List ℕ) (p0 p1 rest : List (Event P)) (e : Event P) (told : Entry) → p0 ≡ e ∷ rest → due key_of until p0 ≡ Some e →
-      IsExecuted r ms e (world_of es0 c0 rest) (world_of es1 c1 p1) told → world_of es1 c1 p1 ≡ stepped (machine_of r ms) until all_kept (states_of es0 c0) p0
+      IsExecuted r ms e (record { before = world_of es0 c0 rest; after = world_of es1 c1 p1; entry = told }) → world_of es1 c1 p1 ≡ stepped (machine_of r ms) until all_kept (states_of es0 c0) p0
   executed_step es0 es1 c0 c1 p0 p1 rest e told is d q =
       ap (λ (x : States B S P). let v : World (States B S P) (Event P) = record { state = x; pending = p1 } in v) q.state
       ∙ (ap (λ (ps : List (Event P)). let v : World (States B S P) (Event P) = record { state = acts_at r ms (states_of es0 c0) e (slice_get es0 e.entity); pending = ps } in v) q.pending
@@ -148,7 +148,7 @@ module _ {B S P : Type 0} (r : Reaction S P) (ms : List Mapping) (until : ℕ) w
   pub executed_by : (e : Event P) (es0 : List (Entity B S P)) (en en1 : Entity B S P) (c0 c1 : List ℕ) (p0 p1 : List (Event P)) (ps : List Process) (ws : List (Written P)) (ls : List Line) →
       slice_get es0 e.entity ≡ Some en → en1 ≡ entity_after (delivered_to r e en) en → ps ≡ en1.processes → ws ≡ (delivered_to r e en).writes → ls ≡ (delivered_to r e en).lines →
       IsPosted e.key (flat_map (sent ms e.entity ps) ws) c0 p0 c1 p1 →
-      IsExecuted r ms e (world_of es0 c0 p0) (world_of (slice_set es0 e.entity en1) c1 p1) (record { key = e.key; entity = e.entity; lines = ls })
+      IsExecuted r ms e (record { before = world_of es0 c0 p0; after = world_of (slice_set es0 e.entity en1) c1 p1; entry = record { key = e.key; entity = e.entity; lines = ls } })
   executed_by e es0 en en1 c0 c1 p0 p1 ps ws ls at after_is ps_is ws_is ls_is posted =
       let d = delivered_to r e en in
       let processes : ps ≡ d.processes = ps_is ∙ ap (λ (x : Entity B S P). x.processes) after_is in

@@ -9,6 +9,7 @@ use Rattle.ssf_model.specs.declared.process.Process.{Process}
 use Rattle.ssf_model.specs.declared.entity.Entity.{Entity}
 use Rattle.ssf_model.specs.declared.plan.Mapping.{Mapping}
 use Rattle.ssf_model.specs.declared.plan.Plan.{Plan}
+use Rattle.global_list.specs.declared.one_list.OneList.{OneList}
 use Rattle.ssf_model.specs.Reaction.{Reaction, Validity, LatestTime}
 use Rattle.ssf_model.specs.Deliver.{IsTimely}
 use Rattle.ssf_model.specs.Entities.{IsValidEntity}
@@ -25,6 +26,16 @@ states_of entities counts = record { entities = entities; counts = counts_of cou
 abbrev pub world_of : {B S P : Type 0} → List (Entity B S P) → List ℕ → List (Event P) → World (States B S P) (Event P)
 world_of entities counts pending = record { state = states_of entities counts; pending = pending }
 
+-- the world that the one list has
+abbrev pub world_in : {B S P : Type 0} → OneList B S P → World (States B S P) (Event P)
+world_in list = world_of list.entities.items list.agenda.counts.items list.agenda.pending
+
+-- what the execution of an event did: the world before it and after, and the entry that it told
+pub record Execution (B S P : Type 0) : Type 0 where
+  pub before : World (States B S P) (Event P)
+  pub after : World (States B S P) (Event P)
+  pub entry : Entry
+
 -- the event can be executed at its entity
 pub record MayExecute {B S P : Type 0} (valid : Validity S) (r : Reaction S P) (mappings : List Mapping) (e : Event P) (entities : List (Entity B S P)) (counts : List ℕ) (pending : List (Event P)) : Type 0 where
   pub entity : Entity B S P
@@ -36,11 +47,11 @@ pub record MayExecute {B S P : Type 0} (valid : Validity S) (r : Reaction S P) (
   pub time : e.key.time ≤ LatestTime
   pub may : MayPost e.key (sent_by r mappings e entity) counts pending
 
--- the event was executed: the world before and after, and its entry
-pub record IsExecuted {B S P : Type 0} (r : Reaction S P) (mappings : List Mapping) (e : Event P) (w0 w1 : World (States B S P) (Event P)) (told : Entry) : Type 0 where
-  pub state : w1.state ≡ acts_at r mappings w0.state e (slice_get w0.state.entities e.entity)
-  pub pending : w1.pending ≡ put_all key_of (writes_at r mappings w0.state e (slice_get w0.state.entities e.entity)) w0.pending
-  pub entry : told ≡ entry_at r w0.state.entities e
+-- the event was executed so, and is no more pending
+pub record IsExecuted {B S P : Type 0} (r : Reaction S P) (mappings : List Mapping) (e : Event P) (x : Execution B S P) : Type 0 where
+  pub state : x.after.state ≡ acts_at r mappings x.before.state e (slice_get x.before.state.entities e.entity)
+  pub pending : x.after.pending ≡ put_all key_of (writes_at r mappings x.before.state e (slice_get x.before.state.entities e.entity)) x.before.pending
+  pub entry : x.entry ≡ entry_at r x.before.state.entities e
 
 -- the list stands after n events of the run of a plan that fits, and can go on
 pub record MayGoOn {B S P : Type 0} (valid : Validity S) (carried : P → Type 0) (r : Reaction S P) (mappings : List Mapping) (last : ℕ) (entities : List (Entity B S P)) (counts : List ℕ) (pending : List (Event P)) : Type 0 where

@@ -3,7 +3,7 @@
 ghost use Rattle.std.specs.Prelude.{◌≡◌, length, MatchBool, IfOk, OnErr};
 ghost use Rattle.event_order.specs.Pending.{IsRising};
 ghost use Rattle.global_list.specs.Pending.{key_of};
-ghost use Rattle.global_list.specs.Executed.{world_of, MayExecute, IsExecuted, MayGoOn, IsOneMore, IsNoMore};
+ghost use Rattle.global_list.specs.Executed.{world_in, MayExecute, IsExecuted, MayGoOn, IsOneMore, IsNoMore};
 
 use crate::agenda::Agenda;
 use crate::fan_out::FanOut;
@@ -64,8 +64,8 @@ impl<B: Behaviour> OneList<B> {
     ) -> Result<bool, Memory>
         requires { MayGoOn (B.valid self.old.behaviour) (B.carried self.old.behaviour) (B.reaction self.old.behaviour) self.old.fan_out until self.old.entities.items self.old.agenda.counts.items self.old.agenda.pending }
         ensures next { IfOk result (λ more. MatchBool more
-            (IsOneMore (B.reaction self.old.behaviour) self.old.fan_out until (world_of self.old.entities.items self.old.agenda.counts.items self.old.agenda.pending) (world_of self.new.entities.items self.new.agenda.counts.items self.new.agenda.pending) entries.old.items entries.new.items)
-            (IsNoMore until (world_of self.old.entities.items self.old.agenda.counts.items self.old.agenda.pending) (world_of self.new.entities.items self.new.agenda.counts.items self.new.agenda.pending) entries.old.items entries.new.items)) }
+            (IsOneMore (B.reaction self.old.behaviour) self.old.fan_out until (world_in self.old) (world_in self.new) entries.old.items entries.new.items)
+            (IsNoMore until (world_in self.old) (world_in self.new) entries.old.items entries.new.items)) }
         ensures kept { OnErr result (entries.new.items ≡ entries.old.items) }
         ensures behaviour { self.new.behaviour ≡ self.old.behaviour }
         ensures mappings { self.new.fan_out ≡ self.old.fan_out }
@@ -83,7 +83,7 @@ impl<B: Behaviour> OneList<B> {
     /// its actions write becomes pending.
     fn execute(&mut self, alloc: Global, event: &Event<B::Payload>) -> Result<Entry, Memory>
         requires { MayExecute (B.valid self.old.behaviour) (B.reaction self.old.behaviour) self.old.fan_out event.now self.old.entities.items self.old.agenda.counts.items self.old.agenda.pending }
-        ensures executed { IfOk result (λ entry. IsExecuted (B.reaction self.old.behaviour) self.old.fan_out event.now (world_of self.old.entities.items self.old.agenda.counts.items self.old.agenda.pending) (world_of self.new.entities.items self.new.agenda.counts.items self.new.agenda.pending) entry) }
+        ensures executed { IfOk result (λ entry. IsExecuted (B.reaction self.old.behaviour) self.old.fan_out event.now (record { before = world_in self.old; after = world_in self.new; entry = entry })) }
         ensures size { IfOk result (λ _. length self.new.agenda.counts.items ≡ length self.old.agenda.counts.items) }
         ensures behaviour { self.new.behaviour ≡ self.old.behaviour }
         ensures mappings { self.new.fan_out ≡ self.old.fan_out }

@@ -160,7 +160,7 @@ fn add_node(builder: &mut PlanBuilder<Ring>, node: u32, tokens: u32) -> Result<(
     requires ins { length builder.old.in_owners ≡ node }
     requires outs { length builder.old.outs ≡ node }
     requires mappings { builder.old.mappings ≡ [] }
-    requires few { node ≤ 262144 }
+    requires few { node ≤ MostChannels }
     ensures made { OnOk result (builder.new ≡ with_node builder.old (node_of node tokens)) }
     ensures room { OnOk result (entity_refusal builder.old (false ∷ []) ≡ None) }
     ensures cause { IfErr result (λ fault. (fault ≡ BuildFault.Memory) ⊎ (entity_refusal builder.old (false ∷ []) ≡ Some fault)) }
