@@ -1,9 +1,5 @@
 //! The outside over readers and writers in memory that are slow and that fail: a library of such files
 //! gives them whole or fails, and a sink holds what its writer took.
-ghost use Rattle.std.specs.Prelude.{◌≡◌, Option, Some, IfOk};
-ghost use Rattle.std.specs.Io.{ReadsAtMost, WritesAtMost};
-ghost use Rattle.sim_base.specs.Outside.{Files as FilesTold, Fetches};
-
 use crate::{FileLibrary, Opener, StdSink, SystemFiles};
 use sim_base::{Failed, Library, ReadEnd, Sink, read_file, write_all};
 use std::alloc::Global;
