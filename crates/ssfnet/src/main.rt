@@ -2,14 +2,12 @@
 //! top call.
 #![tactic(auto)]
 
-mod real;
-
-use real::{FileLibrary, StdSink};
 use sim_base::{Sink, write_all};
 use ssfnet_top::offline;
 use std::io::ErrorKind;
 use std::process::ExitCode;
 use std::{env, io};
+use system_io::{FileLibrary, StdSink, SystemFiles};
 
 /// The status of a run that found no memory.
 const NO_MEMORY: u8 = 1;
@@ -29,7 +27,7 @@ fn main(rt: HostRuntime) -> ExitCode {
             Vec::new(rt.alloc())
         }
     };
-    let mut library = FileLibrary::new(&rt);
+    let mut library = FileLibrary::new(SystemFiles::new(&rt));
     let mut out = StdSink::new(rt.stdout());
     let status = offline(
         rt.alloc(),
@@ -57,6 +55,3 @@ fn program_words(rt: &HostRuntime) -> io::Result<Vec<String>> {
     }
     Ok(words)
 }
-
-#[cfg(test)]
-mod tests;
