@@ -14,7 +14,7 @@ use Rattle.ssf_model.specs.Reaction.{Reaction, KeepsValid, Keeps, is_timed}
 use Rattle.ssf_model.specs.Deliver.{IsModest, wake_of, reacted, delivered, is_write_on, timer_write}
 use Rattle.list_examples.specs.declared.timers.Idle.{Idle}
 use Rattle.list_examples.specs.declared.timers.Signal.{Signal}
-use Rattle.list_examples.specs.Timers.{ticker_reaction, IsTicker, listener_reaction, IsListener, AnySignal}
+use Rattle.list_examples.specs.Timers.{ticker_reaction, IsTicker, listener_reaction, IsListener, sleeper_reaction, IsSleeper, AnySignal}
 
 -- where each process is timed, none is not
 never_untimed : (ones : List Bool) (i : ℕ) → slice_get (true ∷ ones) i ≡ Some false → ((j : ℕ) → slice_get ones j ≡ Some false → ⊥) → ⊥
@@ -123,3 +123,26 @@ listener_sound s i now wake ready = listener_keeps s i now wake ready.ins ready.
 pub listener_modest : IsModest IsListener AnySignal listener_reaction
 listener_modest s ins outs ps now kind v t timely carried c =
     omega (arith, delivered_once listener_reaction listener_once c now kind 0 s ps, length_flags ps, ap (λ (xs : List Bool). length xs) v.timed_is)
+
+-- ---- the sleeper, which writes nothing
+
+reacted_none : (c now i : ℕ) (s : Idle) (p : Process) (wake : Option (Wake Signal)) → count_by (is_write_on c) (reacted sleeper_reaction now i s p wake).writes ≡ 0
+reacted_none c now i s p None = refl
+reacted_none c now i s p (Some wake) = refl
+
+delivered_none : (c now : ℕ) (kind : Kind Signal) (i : ℕ) (s : Idle) (ps : List Process) → count_by (is_write_on c) (delivered sleeper_reaction now kind i s ps).writes ≡ 0
+delivered_none c now kind i s [] = refl
+delivered_none c now kind i s (p ∷ ps) =
+    let first = reacted sleeper_reaction now i s p (wake_of kind i p) in
+    omega (
+      arith,
+      reacted_none c now i s p (wake_of kind i p),
+      delivered_none c now kind (i + 1) first.state ps,
+      sum_by-append (λ (w : Written Signal). cond (is_write_on c w) 1 0) first.writes (delivered sleeper_reaction now kind (i + 1) first.state ps).writes,
+    )
+
+pub sleeper_sound : KeepsValid IsSleeper AnySignal sleeper_reaction
+sleeper_sound s i now wake ready = record { stays = tt; own_writes = tt; own_wait = tt; untimed = λ e h. cc }
+
+pub sleeper_modest : IsModest IsSleeper AnySignal sleeper_reaction
+sleeper_modest s ins outs ps now kind v t timely carried c = omega (arith, delivered_none c now kind 0 s ps)

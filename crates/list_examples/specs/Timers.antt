@@ -1,5 +1,5 @@
 -- Two entities with timers: how their processes react, and their valid states.
-use Rattle.std.specs.Prelude.{ℕ, zero, suc, ◌≡◌, Bool, true, List, [], ◌∷◌}
+use Rattle.std.specs.Prelude.{ℕ, zero, suc, ◌≡◌, Bool, true, false, List, [], ◌∷◌}
 use Rattle.ssf_model.specs.declared.wait.Wait.{Wait}
 use Rattle.ssf_model.specs.declared.wait.Wait.TheVariants.{For, OnFor, Forever}
 use Rattle.ssf_model.specs.declared.wait.Wake.TheVariants.{Begin, Timer, Message}
@@ -10,6 +10,7 @@ use Rattle.list_examples.specs.declared.timers.Idle.{Idle}
 use Rattle.list_examples.specs.declared.timers.Signal.{Signal}
 use Rattle.list_examples.specs.declared.timers.Ticker.{Ticker}
 use Rattle.list_examples.specs.declared.timers.Listener.{Listener}
+use Rattle.list_examples.specs.declared.timers.Sleeper.{Sleeper}
 
 abbrev pub waits_for : Idle → Wait → Outcome Idle Signal
 waits_for s wait = record { state = s; wait = wait; writes = []; lines = [] }
@@ -37,6 +38,14 @@ pub record IsListener (s : Idle) (ins outs : List ℕ) (timed : List Bool) (wait
   pub out_channel : outs ≡ 0 ∷ []
   pub timed_is : timed ≡ true ∷ true ∷ []
 
+-- processes that wait for nothing more, whatever wakes them
+abbrev pub sleeper_reaction : Reaction Idle Signal
+sleeper_reaction s process now wake = waits_for s Forever
+
+-- whatever they wait for
+abbrev pub IsSleeper : Validity Idle
+IsSleeper s ins outs timed waits = Unit {0}
+
 abbrev pub AnySignal : Signal → Type 0
 AnySignal payload = Unit {0}
 
@@ -49,3 +58,12 @@ abbrev pub listener_draft : Draft Listener Idle
 listener_draft =
     let entity = with_entity (empty_draft (record {})) (record {}) (true ∷ true ∷ []) in
     with_mapping (with_out_channel (with_in_channel entity 0) 0 0) 0 0 0 0
+
+-- two entities, each with an in-channel and an out-channel that is mapped to the other's; the first process is not timed
+abbrev pub sleepers_draft : Draft Sleeper Idle
+sleepers_draft =
+    let first = with_entity (empty_draft (record {})) (record {}) (false ∷ true ∷ []) in
+    let entities = with_entity first (record {}) (true ∷ []) in
+    let ins = with_in_channel (with_in_channel entities 0) 1 in
+    let outs = with_out_channel (with_out_channel ins 0 0) 1 0 in
+    with_mapping (with_mapping outs 0 1 0 0) 1 0 0 0

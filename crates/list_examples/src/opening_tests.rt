@@ -1,7 +1,7 @@
 //! Openings: which are one of a plan, and how a plan goes on from one.
 
 use crate::rings::ring_plan;
-use crate::timers::{Idle, Listener, Signal, listener_plan};
+use crate::timers::{Idle, Listener, Signal, Sleeper, listener_plan, sleepers_plan};
 use event_order::Key;
 use global_list::run_single;
 use ring_model::{Hop, Ring, RingPayload, RingState};
@@ -153,6 +153,7 @@ fn pending_events_stand_on_channels(rt: HostRuntime) {
         (key(6, 0, 0, 1, 2), 0, timer(0, 2), false),
         (key(6, 0, 1, 1, 1), 0, timer(0, 2), false),
         (key(6, 0, 0, 1, 1), 1, timer(0, 2), false),
+        (key(6, 0, 0, 1, 1), 1, Kind::Begin, false),
         (key(6, 0, 0, 1, 1), 0, timer(2, 2), false),
         (key(6, 0, 0, 1, 1), 0, timer(0, 3), false),
         (key(6, 0, 0, 2, 0), 0, timer(0, 2), false),
@@ -169,6 +170,136 @@ fn pending_events_stand_on_channels(rt: HostRuntime) {
         let event = Event { key, entity, kind };
         pending.push(event).expect(&rt, "memory");
         let opening = half(alloc, Flaw::None, pending).expect(&rt, "memory");
+        assert_eq!(rt; plan.lawful(&opening), lawful, "{event:?}");
+    }
+}
+
+/// One way in which an opening of two entities of sleepers is none of their plan.
+#[derive(Clone, Copy, Debug, PartialEq, Eq)]
+enum Excess {
+    None,
+    UntimedFor,
+    UntimedOnFor,
+    ForeignOn,
+    ForeignOnFor,
+    ThirdEntity,
+    SecondWait,
+    SecondTicket,
+    SeventhCount,
+}
+
+/// An entity at an opening, whose processes wait so, and with so many tickets, all 1.
+fn sleeping(alloc: Global, waits: Vec<Wait>, many: usize) -> Result<Opened<Sleeper>, Memory> {
+    let mut tickets = Vec::new(alloc);
+    for _ in 0..many {
+        tickets.push(1)?;
+    }
+    Ok(Opened {
+        state: Idle {},
+        waits: ListOf::from_vec(waits),
+        tickets: ListOf::from_vec(tickets),
+    })
+}
+
+/// What the processes of entity 0 wait for: a message, and a message or four ticks.
+fn first_waits(alloc: Global, excess: Excess) -> Result<Vec<Wait>, Memory> {
+    let foreign = if excess == Excess::ForeignOn { 1 } else { 0 };
+    let mut waits = Vec::new(alloc);
+    waits.push(match excess {
+        Excess::UntimedFor => Wait::For(4),
+        Excess::UntimedOnFor => Wait::OnFor(ChannelList::of(alloc, &[0])?, 4),
+        _ => Wait::On(ChannelList::of(alloc, &[foreign])?),
+    })?;
+    let foreign = if excess == Excess::ForeignOnFor { 1 } else { 0 };
+    waits.push(Wait::OnFor(ChannelList::of(alloc, &[foreign])?, 4))?;
+    Ok(waits)
+}
+
+/// An opening of the two entities in which all have acted once, with an excess and these pending events.
+fn asleep(
+    alloc: Global,
+    excess: Excess,
+    pending: Vec<Event<Signal>>,
+) -> Result<Opening<Sleeper>, Memory> {
+    let mut entities = Vec::new(alloc);
+    entities.push(sleeping(alloc, first_waits(alloc, excess)?, 2)?)?;
+    let mut waits = Vec::new(alloc);
+    waits.push(Wait::For(3))?;
+    if excess == Excess::SecondWait {
+        waits.push(Wait::For(3))?;
+    }
+    let tickets = if excess == Excess::SecondTicket { 2 } else { 1 };
+    entities.push(sleeping(alloc, waits, tickets)?)?;
+    if excess == Excess::ThirdEntity {
+        entities.push(sleeping(alloc, Vec::new(alloc), 0)?)?;
+    }
+    let mut counts = Vec::new(alloc);
+    let many = if excess == Excess::SeventhCount { 7 } else { 6 };
+    for _ in 0..many {
+        counts.push(1)?;
+    }
+    Ok(Opening {
+        entities: ListOf::from_vec(entities),
+        counts: ListOf::from_vec(counts),
+        pending: ListOf::from_vec(pending),
+        events: 2,
+    })
+}
+
+// Waits that the plan's processes may not have, and lists that are too long.
+#[test]
+fn openings_have_no_more_than_the_plan(rt: HostRuntime) {
+    let alloc = rt.alloc();
+    let plan = sleepers_plan(alloc).expect(&rt, "a plan");
+    for excess in [
+        Excess::None,
+        Excess::UntimedFor,
+        Excess::UntimedOnFor,
+        Excess::ForeignOn,
+        Excess::ForeignOnFor,
+        Excess::ThirdEntity,
+        Excess::SecondWait,
+        Excess::SecondTicket,
+        Excess::SeventhCount,
+    ] {
+        let opening = asleep(alloc, excess, Vec::new(alloc)).expect(&rt, "memory");
+        assert_eq!(rt; plan.lawful(&opening), excess == Excess::None, "{excess:?}");
+    }
+}
+
+// Each pending event stands at the entity of its channel, and at the process of its timer channel.
+#[test]
+fn channels_lead_to_one_entity(rt: HostRuntime) {
+    let alloc = rt.alloc();
+    let plan = sleepers_plan(alloc).expect(&rt, "a plan");
+    let timer = |process: u32| Kind::Timer { process, ticket: 1 };
+    let message = |channel: u32| Kind::Message {
+        channel,
+        payload: Signal {},
+    };
+    for (channel, entity, kind, lawful) in [
+        (0, 0_u32, Kind::Begin, true),
+        (1, 1, Kind::Begin, true),
+        (0, 1, Kind::Begin, false),
+        (2, 0, timer(1), true),
+        (3, 1, timer(0), true),
+        (2, 0, timer(0), false),
+        (2, 1, timer(0), false),
+        (3, 0, timer(1), false),
+        (4, 1, message(1), true),
+        (5, 0, message(0), true),
+        (4, 0, message(1), false),
+        (4, 0, message(0), false),
+        (5, 1, message(0), false),
+    ] {
+        let mut pending = Vec::new(alloc);
+        let event = Event {
+            key: key(9, 0, 0, channel, 0),
+            entity,
+            kind,
+        };
+        pending.push(event).expect(&rt, "memory");
+        let opening = asleep(alloc, Excess::None, pending).expect(&rt, "memory");
         assert_eq!(rt; plan.lawful(&opening), lawful, "{event:?}");
     }
 }

@@ -4,7 +4,7 @@ ghost use Rattle.std.specs.Prelude.{◌≡◌, ◌↔◌, ◌∷◌, [], ℕ, tr
 ghost use Rattle.ssf_model.specs.Reaction.{is_timed};
 ghost use Rattle.ssf_model.specs.Drafts.{planned};
 ghost use Rattle.ssf_model.specs.Run.{Fits};
-ghost use Rattle.list_examples.specs.Timers.{IsTicker, IsListener, AnySignal, ticker_draft, listener_draft};
+ghost use Rattle.list_examples.specs.Timers.{IsTicker, IsListener, IsSleeper, AnySignal, ticker_draft, listener_draft, sleepers_draft};
 
 use sim_base::Memory;
 use ssf_model::{Behaviour, BuildFault, ChannelList, Out, Plan, PlanBuilder, Process, Wait, Wake};
@@ -27,6 +27,11 @@ pub struct Ticker {}
 /// waits for two ticks, then writes one message without delay, and waits for nothing more.
 #[derive(Clone, Copy, Debug)]
 pub struct Listener {}
+
+/// The behaviour of processes that wait for nothing more whenever something wakes them. Whatever they
+/// wait for meanwhile, their state is valid.
+#[derive(Clone, Copy, Debug)]
+pub struct Sleeper {}
 
 /// Whether these are one timed process.
 fn is_one_timed(processes: &[Process]) -> bool
@@ -162,6 +167,51 @@ impl Behaviour for Listener {
     }
 }
 
+impl Behaviour for Sleeper {
+    ghost use Rattle.std.specs.Prelude.{◌≡◌, ◌++◌};
+    ghost use Rattle.list_examples.specs.Timers.{sleeper_reaction, IsSleeper, AnySignal};
+    ghost use Rattle.list_examples.specs.TimerLaws.{sleeper_sound, sleeper_modest};
+
+    type State = Idle;
+
+    type Payload = Signal;
+
+    ghost reaction = { λ _. sleeper_reaction };
+
+    ghost valid = { λ _. IsSleeper };
+
+    ghost carried = { λ _. AnySignal };
+
+    ghost sound = { λ _. sleeper_sound };
+
+    ghost modest = { λ _. sleeper_modest };
+
+    fn action(
+        &self,
+        _alloc: Global,
+        _state: &mut Idle,
+        _process: u32,
+        _now: u64,
+        _wake: &Wake<Signal>,
+        _out: &mut Out<Signal>,
+    ) -> Result<Wait, Memory> {
+        Ok(Wait::Forever)
+    }
+
+    fn known(&self, _payload: &Signal) {}
+
+    fn is_valid(
+        &self,
+        _state: &Idle,
+        _ins: &[u32],
+        _outs: &[u32],
+        _processes: &[Process],
+        _waits: &[Wait],
+    ) -> bool {
+        true
+    }
+}
+
 /// A plan of one entity that ticks; it is refused for want of memory alone.
 pub fn ticker_plan(alloc: Global) -> Result<Plan<Ticker>, BuildFault>
     ensures made { IfOk result (λ plan. plan ≡ planned ticker_draft) }
@@ -190,6 +240,31 @@ pub fn listener_plan(alloc: Global) -> Result<Plan<Listener>, BuildFault>
     builder.in_channel(0)?;
     builder.out_channel(0, 0)?;
     builder.mapto(0, 0, 0)?;
+    let plan = builder.finish()?;
+    Ok(plan)
+}
+
+/// A plan of two entities of sleepers, of which each has one in-channel and one out-channel, that leads
+/// to the other without delay. Entity 0 has a process that is not timed and one that is, and entity 1
+/// one that is. It is refused for want of memory alone.
+pub fn sleepers_plan(alloc: Global) -> Result<Plan<Sleeper>, BuildFault>
+    ensures made { IfOk result (λ plan. plan ≡ planned sleepers_draft) }
+    ensures fits { IfOk result (λ plan. Fits IsSleeper AnySignal plan) }
+    ensures cause { IfErr result (λ fault. fault ≡ BuildFault.Memory) }
+{
+    let mut builder = PlanBuilder::new(alloc, Sleeper {})?;
+    if let Err((_, fault)) = builder.entity(Idle {}, &[false, true]) {
+        return Err(fault);
+    }
+    if let Err((_, fault)) = builder.entity(Idle {}, &[true]) {
+        return Err(fault);
+    }
+    builder.in_channel(0)?;
+    builder.in_channel(1)?;
+    builder.out_channel(0, 0)?;
+    builder.out_channel(1, 0)?;
+    builder.mapto(0, 1, 0)?;
+    builder.mapto(1, 0, 0)?;
     let plan = builder.finish()?;
     Ok(plan)
 }

@@ -6,7 +6,7 @@ use Rattle.std.proofs.lemmas.Bool.{eqb-true}
 use Rattle.std.proofs.lemmas.Bool.Decides.{nat_tests}
 use Rattle.sim_base.specs.declared.records.TcpConfig.{TcpConfig}
 use Rattle.sim_base.specs.declared.records.TcpState.{TcpState}
-use Rattle.sim_base.specs.declared.records.TcpState.TheVariants.{SynSent, FinWait2, TimeWait, Closed}
+use Rattle.sim_base.specs.declared.records.TcpState.TheVariants.{SynSent, FinWait1, FinWait2, TimeWait, Closed}
 use Rattle.sim_base.specs.SegmentFields.{SegmentFields, IsSegment}
 use Rattle.tcp_clock.specs.Retransmission.{Timeout, IsTimeout}
 use Rattle.tcp_clock.specs.Congestion.{Window, IsWindow, first_window, grown, third_duplicate, timed_out, timed_out_again}
@@ -15,7 +15,7 @@ use Rattle.tcp_rules.specs.declared.records.Act.{Act}
 use Rattle.tcp_rules.specs.declared.records.Act.TheVariants.{Send}
 use Rattle.tcp_rules.specs.declared.records.Timing.{Timing}
 use Rattle.tcp_rules.specs.Segments.{IsTimedTcp, own_window, Turn, quiet, following, span, sent_of, is_ack_of, syn_segment, Each}
-use Rattle.tcp_rules.specs.Clients.{ClientFields, client_ack, client_fin, client_data, first_segment, measured, is_timed_below, advanced, with_deadline, opened, connected, allowed, edge, data_stop, data_count, data_sent, fin_sent, is_established, sent, synchronized, at_syn_ack, acknowledged, at_new_ack, is_duplicate, at_duplicate, at_ack, at_any_ack, hears, heard, finished, at_last_fin, at_fin, at_plain, at_opening, at_later, client_at, client_segment, client_closed, window_after_timeout, retransmitted, at_client_timeout, client_timeout_at, client_timeout}
+use Rattle.tcp_rules.specs.Clients.{ClientFields, client_ack, client_fin, client_data, first_segment, measured, is_timed_below, advanced, deadline_at, with_deadline, opened, connected, allowed, edge, data_stop, data_count, data_sent, fin_sent, is_established, sent, synchronized, at_syn_ack, acknowledged, at_new_ack, is_duplicate, at_duplicate, at_ack, at_any_ack, hears, at_acknowledgment, finished, at_last_fin, at_fin, at_plain, at_opening, at_later, client_at, client_segment, client_closed, window_after_timeout, retransmitted, at_client_timeout, client_timeout_at, client_timeout}
 use Rattle.tcp_rules.specs.Limits.{IsClientEnd}
 use Rattle.tcp_rules.proofs.Cases.{if_case, both_left, both_right, sent_of-append, each_sent}
 use Rattle.tcp_rules.proofs.Holes.{either_is}
@@ -130,8 +130,10 @@ advanced_ranged c now n within is =
       duplicates = is.duplicates;
     }
 
-deadline_ranged : (c : ClientFields) (now : ℕ) → IsClientEnd c → IsClientEnd (with_deadline c now)
-deadline_ranged c now is = record {
+-- the ranges say nothing of the state, the deadline and what is timed; what comes next and the duplicates stay in theirs
+changed_ranged : (c : ClientFields) (state : TcpState) (deadline : Option ℕ) (timed : Option Timing) (rcv duplicates : ℕ) → rcv ≤ 2 ^ 32 → duplicates ≤ 4 → IsClientEnd c
+    → IsClientEnd (record c { state = state; deadline = deadline; timed = timed; rcv = rcv; duplicates = duplicates })
+changed_ranged c state deadline timed rcv duplicates low few is = record {
   config = is.config;
   rto = is.rto;
   window = is.window;
@@ -142,12 +144,19 @@ deadline_ranged c now is = record {
   top_end = is.top_end;
   iss_end = is.iss_end;
   end = is.end;
-  rcv = is.rcv;
+  rcv = low;
   peer = is.peer;
   segments = is.segments;
   tries = is.tries;
-  duplicates = is.duplicates;
+  duplicates = few;
 }
+
+-- another state and deadline
+moved_on : (c : ClientFields) (state : TcpState) (deadline : Option ℕ) → IsClientEnd c → IsClientEnd (record c { state = state; deadline = deadline })
+moved_on c state deadline is = changed_ranged c state deadline c.timed c.rcv c.duplicates is.rcv is.duplicates is
+
+deadline_ranged : (c : ClientFields) (now : ℕ) → IsClientEnd c → IsClientEnd (with_deadline c now)
+deadline_ranged c now is = moved_on c c.state (deadline_at c now) is
 
 data_turn : (n stop now : ℕ) (c : ClientFields) → (c.nxt < stop → stop ≤ c.end) → IsClientEnd c → IsClientTurn n (data_sent n stop now c)
 data_turn zero stop now c within is = quiet_turn 0 c is
@@ -168,25 +177,9 @@ unfolding fin_sent
 fin_turn now c is = if_case (IsClientTurn 1) (nat_eq c.nxt c.end)
     (λ e.
     let at = eqb-true c.nxt c.end e in
-    let next = advanced_ranged c now 1 (omega arith) is in
+    let next = advanced c now 1 in
     record {
-      client = record {
-        config = next.config;
-        rto = next.rto;
-        window = next.window;
-        iss_una = next.iss_una;
-        iss_nxt = next.iss_nxt;
-        una_nxt = next.una_nxt;
-        nxt_top = next.nxt_top;
-        top_end = next.top_end;
-        iss_end = next.iss_end;
-        end = next.end;
-        rcv = next.rcv;
-        peer = next.peer;
-        segments = next.segments;
-        tries = next.tries;
-        duplicates = next.duplicates;
-      };
+      client = moved_on next FinWait1 next.deadline (advanced_ranged c now 1 (omega arith) is);
       segments = if_case (λ acts. Each IsSegment (sent_of (acts ++ Send (client_fin c) ∷ []))) (is_established c.state)
           (λ k. (client_fin_is c is, tt)) (λ k. (client_fin_is c is, tt));
       few = if_case (λ acts. length (sent_of (acts ++ Send (client_fin c) ∷ [])) ≤ 1) (is_established c.state)
@@ -329,24 +322,8 @@ new_ack_turn c ack now new within is =
     let next = acknowledged c ack now in
     let ranged = acknowledged_ranged c ack now new within is in
     if_case (IsClientTurn 65537) (nat_eq ack (c.end + 1))
-    (λ e. let timed = deadline_ranged next now ranged in record {
-      client = record {
-        config = timed.config;
-        rto = timed.rto;
-        window = timed.window;
-        iss_una = timed.iss_una;
-        iss_nxt = timed.iss_nxt;
-        una_nxt = timed.una_nxt;
-        nxt_top = timed.nxt_top;
-        top_end = timed.top_end;
-        iss_end = timed.iss_end;
-        end = timed.end;
-        rcv = timed.rcv;
-        peer = timed.peer;
-        segments = timed.segments;
-        tries = timed.tries;
-        duplicates = timed.duplicates;
-      };
+    (λ e. record {
+      client = moved_on next FinWait2 (deadline_at next now) ranged;
       segments = tt;
       few = omega arith;
     })
@@ -383,23 +360,7 @@ duplicate_turn c is =
       few = omega arith;
     })
     (λ e. record {
-      client = record {
-        config = is.config;
-        rto = is.rto;
-        window = is.window;
-        iss_una = is.iss_una;
-        iss_nxt = is.iss_nxt;
-        una_nxt = is.una_nxt;
-        nxt_top = is.nxt_top;
-        top_end = is.top_end;
-        iss_end = is.iss_end;
-        end = is.end;
-        rcv = is.rcv;
-        peer = is.peer;
-        segments = is.segments;
-        tries = is.tries;
-        duplicates = omega arith;
-      };
+      client = changed_ranged c c.state c.deadline c.timed c.rcv (min 4 (c.duplicates + 1)) is.rcv (omega arith) is;
       segments = tt;
       few = omega arith;
     })
@@ -417,51 +378,35 @@ any_ack_turn : (o : Option ℕ) (c : ClientFields) (s : SegmentFields) (now : �
 any_ack_turn None c s now is = quiet_turn 65537 c is
 any_ack_turn (Some ack) c s now is = ack_turn c s ack now is
 
-heard_turn : (c : ClientFields) (s : SegmentFields) (now : ℕ) → IsClientEnd c → IsClientTurn 65537 (heard c s now)
-unfolding heard
-heard_turn c s now is = if_case (IsClientTurn 65537) (hears c.state) (λ e. any_ack_turn s.ack c s now is) (λ e. quiet_turn 65537 c is)
+acknowledgment_turn : (c : ClientFields) (s : SegmentFields) (now : ℕ) → IsClientEnd c → IsClientTurn 65537 (at_acknowledgment c s now)
+unfolding at_acknowledgment
+acknowledgment_turn c s now is = if_case (IsClientTurn 65537) (hears c.state) (λ e. any_ack_turn s.ack c s now is) (λ e. quiet_turn 65537 c is)
 
 -- The peer's FIN.
 last_fin_turn : (c : ClientFields) (now : ℕ) → c.rcv < 2 ^ 32 → IsClientEnd c → IsClientTurn 1 (at_last_fin c now)
 unfolding at_last_fin
 last_fin_turn c now below is =
-    let ranged : IsClientEnd (finished c now) = record {
-      config = is.config;
-      rto = is.rto;
-      window = is.window;
-      iss_una = is.iss_una;
-      iss_nxt = is.iss_nxt;
-      una_nxt = is.una_nxt;
-      nxt_top = is.nxt_top;
-      top_end = is.top_end;
-      iss_end = is.iss_end;
-      end = is.end;
-      rcv = omega arith;
-      peer = is.peer;
-      segments = is.segments;
-      tries = is.tries;
-      duplicates = is.duplicates;
-    } in
+    let ranged : IsClientEnd (finished c now) = changed_ranged c TimeWait (Some (now + 2 * c.config.msl)) c.timed (c.rcv + 1) c.duplicates (omega arith) is.duplicates is in
     record { client = ranged; segments = (client_ack_is (finished c now) ranged, tt); few = omega arith }
 
-fin_heard_turn : (state : TcpState) (c : ClientFields) (s : SegmentFields) (now : ℕ) → IsSegment s → IsClientEnd c → IsClientTurn 1 (at_fin state c s now)
-fin_heard_turn FinWait2 c s now segment is = if_case (IsClientTurn 1) (s.fin && nat_eq (s.seq + s.length) c.rcv)
+peer_fin_turn : (state : TcpState) (c : ClientFields) (s : SegmentFields) (now : ℕ) → IsSegment s → IsClientEnd c → IsClientTurn 1 (at_fin state c s now)
+peer_fin_turn FinWait2 c s now segment is = if_case (IsClientTurn 1) (s.fin && nat_eq (s.seq + s.length) c.rcv)
     (λ e.
     let at = eqb-true (s.seq + s.length) c.rcv (both_right s.fin (nat_eq (s.seq + s.length) c.rcv) e) in
     let last = segment.last in
     last_fin_turn c now (omega arith) is)
     (λ e. quiet_turn 1 c is)
-fin_heard_turn TimeWait c s now segment is = if_case (IsClientTurn 1) s.fin
+peer_fin_turn TimeWait c s now segment is = if_case (IsClientTurn 1) s.fin
     (λ e. one_turn 1 c (client_ack c) (omega arith) is (client_ack_is c is)) (λ e. quiet_turn 1 c is)
-fin_heard_turn _ c s now segment is = quiet_turn 1 c is
+peer_fin_turn _ c s now segment is = quiet_turn 1 c is
 
 -- Segments.
 plain_turn : (c : ClientFields) (s : SegmentFields) (now : ℕ) → IsSegment s → IsClientEnd c → IsClientTurn 65538 (at_plain c s now)
 unfolding at_plain
 plain_turn c s now segment is =
-    let t = heard c s now in
-    let first = heard_turn c s now is in
-    following_turn 65537 1 t.acts (at_fin t.after.state t.after s now) first.segments first.few (fin_heard_turn t.after.state t.after s now segment first.client)
+    let t = at_acknowledgment c s now in
+    let first = acknowledgment_turn c s now is in
+    following_turn 65537 1 t.acts (at_fin t.after.state t.after s now) first.segments first.few (peer_fin_turn t.after.state t.after s now segment first.client)
 
 later_turn : (c : ClientFields) (s : SegmentFields) (now : ℕ) → IsSegment s → IsClientEnd c → IsClientTurn 65538 (at_later c s now)
 unfolding at_later
@@ -485,27 +430,7 @@ client_segment_turn c s now segment is = at_turn c.state c s now segment is
 
 -- Timeouts.
 closed_turn : (c : ClientFields) → IsClientEnd c → IsClientTurn 1 (client_closed c)
-closed_turn c is = record {
-  client = record {
-    config = is.config;
-    rto = is.rto;
-    window = is.window;
-    iss_una = is.iss_una;
-    iss_nxt = is.iss_nxt;
-    una_nxt = is.una_nxt;
-    nxt_top = is.nxt_top;
-    top_end = is.top_end;
-    iss_end = is.iss_end;
-    end = is.end;
-    rcv = is.rcv;
-    peer = is.peer;
-    segments = is.segments;
-    tries = is.tries;
-    duplicates = is.duplicates;
-  };
-  segments = tt;
-  few = omega arith;
-}
+closed_turn c is = record { client = moved_on c Closed None is; segments = tt; few = omega arith }
 
 -- a window for segments of the same size
 record IsWindowOf (mss : ℕ) (w : Window) : Type 0 where

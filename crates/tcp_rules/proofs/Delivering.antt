@@ -2,10 +2,11 @@
 use Rattle.std.proofs.Common.{◌≡◌, ℕ, zero, suc, ◌+◌, ◌≤◌, Option, Some, None, is_some, List, [], ◌∷◌, slice_get, refl, inl, inr, subst, arith}
 use Rattle.sim_base.specs.declared.records.TcpConfig.{TcpConfig}
 use Rattle.sim_base.specs.SegmentFields.{SegmentFields}
+use Rattle.std.specs.List.{Contains}
 use Rattle.tcp_rules.specs.Segments.{Turn, sent_of, Each}
 use Rattle.tcp_rules.specs.Clients.{ClientFields, opened, client_segment, client_timeout}
 use Rattle.tcp_rules.specs.Servers.{ServerFields, listened, server_segment, server_timeout}
-use Rattle.tcp_rules.specs.Transfers.{World, Step, ToClient, ToServer, ClientTimeout, ServerTimeout, client_did, server_did, client_gets, server_gets, after_step, after_steps, beginning, IsSound, HoldsOnly, IsAmong}
+use Rattle.tcp_rules.specs.Transfers.{World, Step, ToClient, ToServer, ClientTimeout, ServerTimeout, client_did, server_did, client_gets, server_gets, after_step, after_steps, beginning, IsSound, HoldsOnly}
 use Rattle.tcp_rules.proofs.Cases.{if_case, each_append}
 use Rattle.tcp_rules.proofs.Sending.{IsProper, IsHeld, IsGood, AtMost, good_segment, good_timeout}
 use Rattle.tcp_rules.proofs.Receiving.{holds_only_more, IsBounded, IsTaken, only_segment, only_timeout, taken_segment, taken_timeout}
@@ -15,10 +16,10 @@ each_at P [] i x each at = absurd (cc)
 each_at {A} P (y ∷ ys) zero x each at = let same : y ≡ x = cc in subst P same each.0
 each_at P (y ∷ ys) (suc i) x each at = each_at P ys i x each.1 at
 
-among_at : (xs : List SegmentFields) (i : ℕ) (x : SegmentFields) → slice_get xs i ≡ Some x → IsAmong x xs
+among_at : (xs : List SegmentFields) (i : ℕ) (x : SegmentFields) → slice_get xs i ≡ Some x → Contains xs x
 among_at [] i x at = absurd (cc)
-among_at (y ∷ ys) zero x at = inl (cc)
-among_at (y ∷ ys) (suc i) x at = inr (among_at ys i x at)
+among_at (y ∷ ys) zero x at = let same : y ≡ x = cc in (0, omega arith, same)
+among_at (y ∷ ys) (suc i) x at = let found = among_at ys i x at in (suc found.0, omega (arith, found.1), found.2)
 
 at_most_more : (m n : ℕ) (o : Option ℕ) → m ≤ n → AtMost m o → AtMost n o
 at_most_more m n None le h = tt
@@ -65,7 +66,7 @@ module _ (iss end : ℕ) where
   client_gets_keeps w now (Some s) acks keeps =
       client_did_keeps w (client_segment w.client s now) keeps (good_segment end iss w.server.rcv w.client s now keeps.server.begun (acks s refl) keeps.client)
 
-  server_gets_keeps : (w : World) (now : ℕ) (o : Option SegmentFields) → ((s : SegmentFields) → o ≡ Some s → IsProper end s × IsAmong s w.from_client)
+  server_gets_keeps : (w : World) (now : ℕ) (o : Option SegmentFields) → ((s : SegmentFields) → o ≡ Some s → IsProper end s × Contains w.from_client s)
       → Keeps iss end w → Keeps iss end (server_gets w now o)
   server_gets_keeps w now None sent keeps = keeps
   server_gets_keeps w now (Some s) sent keeps =

@@ -1,5 +1,6 @@
 -- What a server passes lies in the segments that came to it, and within the client's data.
-use Rattle.std.proofs.Common.{◌≡◌, ℕ, zero, suc, ◌+◌, ◌-◌, ◌<◌, ◌≤◌, Bool, true, false, ◌&&◌, Option, Some, None, List, [], ◌∷◌, ◌++◌, nat_lt, nat_le, refl, sym, ◌∙◌, ap, subst, inl, inr, arith, if◌then◌else◌}
+use Rattle.std.proofs.Common.{◌≡◌, ℕ, zero, suc, ◌+◌, ◌-◌, ◌<◌, ◌≤◌, Bool, true, false, ◌&&◌, Option, Some, None, List, [], ◌∷◌, ◌++◌, length, slice_index_or, nat_lt, nat_le, refl, sym, ◌∙◌, ap, subst, inl, inr, arith, if◌then◌else◌}
+use Rattle.std.specs.List.{Contains}
 use Rattle.std.proofs.lemmas.Bool.{eqb-true}
 use Rattle.std.proofs.lemmas.Bool.Decides.{nat_tests, eqb_tells}
 use Rattle.sim_base.specs.declared.records.TcpState.{TcpState}
@@ -7,16 +8,19 @@ use Rattle.sim_base.specs.declared.records.TcpState.TheVariants.{SynReceived, Es
 use Rattle.sim_base.specs.SegmentFields.{SegmentFields}
 use Rattle.tcp_rules.specs.declared.records.Act.TheVariants.{Send}
 use Rattle.tcp_rules.specs.Segments.{Turn, quiet, carries, data_of, is_ack_of, sent_of, Each}
-use Rattle.tcp_rules.specs.Servers.{ServerFields, server_syn_ack, server_fin, holds, covers, hole, fits, kept_with, fin_with, keeping, moved, told, finishing, at_end, at_kept, at_data, established, at_start, server_closed, at_last, server_at, server_segment, server_last, waiting, server_timeout}
-use Rattle.tcp_rules.specs.Transfers.{LiesIn, LiesAmong, HoldsOnly, IsAmong}
+use Rattle.tcp_rules.specs.Servers.{ServerFields, server_syn_ack, server_fin, holds, covers, hole, fits, kept_with, fin_with, keeping, moved, delivery_of, finishing, at_end, at_kept, at_data, established, at_start, server_closed, at_last, server_at, server_segment, server_last, waiting, server_timeout}
+use Rattle.tcp_rules.specs.Transfers.{LiesIn, LiesAmong, HoldsOnly}
 use Rattle.tcp_rules.proofs.Cases.{before_or_from, if_case, both_left, both_right, each_sent}
 use Rattle.tcp_rules.proofs.Holes.{hole_low, hole_passes, covers_beyond, split_cover}
 use Rattle.tcp_rules.proofs.Sending.{IsProper, AtMost}
 
-pub lies_among : (p : ℕ) (s : SegmentFields) (xs : List SegmentFields) → IsAmong s xs → LiesIn p s → LiesAmong p xs
-lies_among p s [] among lies = absurd among
-lies_among p s (x ∷ xs) (inl is) lies = inl (subst (λ (g : SegmentFields). LiesIn p g) is lies)
-lies_among p s (x ∷ xs) (inr among) lies = inr (lies_among p s xs among lies)
+lies_at : (p : ℕ) (s : SegmentFields) (xs : List SegmentFields) (k : ℕ) → k < length xs → slice_index_or xs k s ≡ s → LiesIn p s → LiesAmong p xs
+lies_at p s [] k within is lies = absurd (omega arith)
+lies_at p s (x ∷ xs) zero within is lies = inl (subst (λ (g : SegmentFields). LiesIn p g) (sym is) lies)
+lies_at p s (x ∷ xs) (suc k) within is lies = inr (lies_at p s xs k (omega arith) is lies)
+
+pub lies_among : (p : ℕ) (s : SegmentFields) (xs : List SegmentFields) → Contains xs s → LiesIn p s → LiesAmong p xs
+lies_among p s xs among lies = lies_at p s xs among.0 among.1 among.2 lies
 
 pub lies_more : (p : ℕ) (xs ys : List SegmentFields) → LiesAmong p xs → LiesAmong p (xs ++ ys)
 lies_more p [] ys lies = absurd lies
@@ -51,7 +55,7 @@ ack_is p (Some a) e = ap (λ (n : ℕ). Some n) (eqb-true a p e)
 
 -- What is passed and kept.
 module _ (first : ℕ) (xs : List SegmentFields) where
-  only_keeping : (s : ServerFields) (g : SegmentFields) → IsAmong g xs → HoldsOnly first xs s → HoldsOnly first xs (keeping s g)
+  only_keeping : (s : ServerFields) (g : SegmentFields) → Contains xs g → HoldsOnly first xs s → HoldsOnly first xs (keeping s g)
   unfolding kept_with fin_with
   only_keeping s g among only = record {
     passed = only.passed;
@@ -91,7 +95,7 @@ module _ (first : ℕ) (xs : List SegmentFields) where
   only_end s now only = if_case (λ (t : Turn ServerFields). HoldsOnly first xs t.after) (is_ack_of s.rcv s.fin)
       (λ e. only_finishing s now (ack_is s.rcv s.fin e) only) (λ e. only)
 
-  only_data : (s : ServerFields) (g : SegmentFields) (now : ℕ) → IsAmong g xs → HoldsOnly first xs s → HoldsOnly first xs (at_data s g now).after
+  only_data : (s : ServerFields) (g : SegmentFields) (now : ℕ) → Contains xs g → HoldsOnly first xs s → HoldsOnly first xs (at_data s g now).after
   unfolding at_data at_kept
   only_data s g now among only = if_case (λ (t : Turn ServerFields). HoldsOnly first xs t.after) (carries g)
       (λ e. only_end (moved (keeping s g)) now (only_moved (keeping s g) (only_keeping s g among only))) (λ e. only)
@@ -104,7 +108,7 @@ module _ (first : ℕ) (xs : List SegmentFields) where
     fin = λ p is. only.fin p (fin ∙ is);
   }
 
-  only_start : (s : ServerFields) (g : SegmentFields) (now : ℕ) → IsAmong g xs → HoldsOnly first xs s → HoldsOnly first xs (at_start s g now).after
+  only_start : (s : ServerFields) (g : SegmentFields) (now : ℕ) → Contains xs g → HoldsOnly first xs s → HoldsOnly first xs (at_start s g now).after
   unfolding at_start
   only_start s g now among only = if_case (λ (t : Turn ServerFields). HoldsOnly first xs t.after) g.syn
       (λ e. only)
@@ -119,7 +123,7 @@ module _ (first : ℕ) (xs : List SegmentFields) where
       (λ k. only_same s (server_closed s).after refl refl refl only)
       (λ k. if_case (λ (t : Turn ServerFields). HoldsOnly first xs t.after) (carries g) (λ f. only) (λ f. only)))
 
-  only_at : (state : TcpState) (s : ServerFields) (g : SegmentFields) (now : ℕ) → IsAmong g xs → HoldsOnly first xs s
+  only_at : (state : TcpState) (s : ServerFields) (g : SegmentFields) (now : ℕ) → Contains xs g → HoldsOnly first xs s
       → HoldsOnly first xs (server_at state s g now).after
   only_at SynReceived s g now among only = only_start s g now among only
   only_at Established s g now among only = if_case (λ (t : Turn ServerFields). HoldsOnly first xs t.after) g.syn
@@ -127,7 +131,7 @@ module _ (first : ℕ) (xs : List SegmentFields) where
   only_at LastAck s g now among only = only_last s g only
   only_at _ s g now among only = only
 
-  pub only_segment : (s : ServerFields) (g : SegmentFields) (now : ℕ) → IsAmong g xs → HoldsOnly first xs s
+  pub only_segment : (s : ServerFields) (g : SegmentFields) (now : ℕ) → Contains xs g → HoldsOnly first xs s
       → HoldsOnly first xs (server_segment s g now).after
   only_segment s g now among only = only_at s.state s g now among only
 
@@ -213,9 +217,9 @@ module _ (iss end : ℕ) where
         fin = is.fin;
       }
 
-  acks_told : (most n : ℕ) → Each (λ g. AtMost most g.ack) (sent_of (told n))
-  acks_told most zero = tt
-  acks_told most (suc n) = tt
+  delivery_acks : (most n : ℕ) → Each (λ g. AtMost most g.ack) (sent_of (delivery_of n))
+  delivery_acks most zero = tt
+  delivery_acks most (suc n) = tt
 
   taken_end : (from : ℕ) (s : ServerFields) (now : ℕ) → from ≤ s.rcv → IsBounded iss end s → IsTaken iss end from (at_end s now)
   unfolding at_end
@@ -235,11 +239,11 @@ module _ (iss end : ℕ) where
   taken_kept s now start is =
       let t = taken_end s.rcv (moved s) now (hole_low s.kept s.rcv) (bounded_moved s start is) in
       let last = at_end (moved s) now in
-      let words = told (hole s.kept s.rcv - s.rcv) in
+      let words = delivery_of (hole s.kept s.rcv - s.rcv) in
       record {
         bounded = t.bounded;
         risen = t.risen;
-        acks = each_sent (λ g. AtMost last.after.rcv g.ack) words last.acts (acks_told last.after.rcv (hole s.kept s.rcv - s.rcv)) t.acks;
+        acks = each_sent (λ g. AtMost last.after.rcv g.ack) words last.acts (delivery_acks last.after.rcv (hole s.kept s.rcv - s.rcv)) t.acks;
       }
 
   taken_quiet : (s : ServerFields) → IsBounded iss end s → IsTaken iss end s.rcv (quiet s)

@@ -7,7 +7,7 @@ use Rattle.sim_base.specs.SegmentFields.{SegmentFields}
 use Rattle.tcp_rules.specs.declared.records.Act.{Act}
 use Rattle.tcp_rules.specs.declared.records.Act.TheVariants.{Send}
 use Rattle.tcp_rules.specs.Segments.{Turn, quiet, following, sent_of, is_ack_of, syn_segment, Each}
-use Rattle.tcp_rules.specs.Clients.{ClientFields, client_ack, client_fin, client_data, first_segment, advanced, edge, data_stop, data_count, data_sent, fin_sent, is_established, sent, synchronized, at_syn_ack, acknowledged, at_new_ack, is_duplicate, at_duplicate, at_ack, at_any_ack, hears, heard, at_last_fin, at_fin, at_plain, at_opening, at_later, client_at, client_segment, client_closed, at_client_timeout, client_timeout_at, client_timeout}
+use Rattle.tcp_rules.specs.Clients.{ClientFields, client_ack, client_fin, client_data, first_segment, advanced, edge, data_stop, data_count, data_sent, fin_sent, is_established, sent, synchronized, at_syn_ack, acknowledged, at_new_ack, is_duplicate, at_duplicate, at_ack, at_any_ack, hears, at_acknowledgment, at_last_fin, at_fin, at_plain, at_opening, at_later, client_at, client_segment, client_closed, at_client_timeout, client_timeout_at, client_timeout}
 use Rattle.tcp_rules.proofs.Cases.{if_case, each_sent}
 
 -- a segment whose data ends at most at an end, where its FIN stands
@@ -124,9 +124,9 @@ module _ (end iss most : ℕ) where
   good_any_ack None c s now seen held = good_quiet c held
   good_any_ack (Some ack) c s now seen held = good_ack c s ack now seen held
 
-  good_heard : (c : ClientFields) (s : SegmentFields) (now : ℕ) → AtMost most s.ack → IsHeld end iss most c → IsGood end iss most (heard c s now)
-  unfolding heard
-  good_heard c s now seen held = if_case (IsGood end iss most) (hears c.state) (λ e. good_any_ack s.ack c s now seen held) (λ e. good_quiet c held)
+  good_acknowledgment : (c : ClientFields) (s : SegmentFields) (now : ℕ) → AtMost most s.ack → IsHeld end iss most c → IsGood end iss most (at_acknowledgment c s now)
+  unfolding at_acknowledgment
+  good_acknowledgment c s now seen held = if_case (IsGood end iss most) (hears c.state) (λ e. good_any_ack s.ack c s now seen held) (λ e. good_quiet c held)
 
   good_at_fin : (state : TcpState) (c : ClientFields) (s : SegmentFields) (now : ℕ) → IsHeld end iss most c → IsGood end iss most (at_fin state c s now)
   unfolding at_last_fin
@@ -141,8 +141,8 @@ module _ (end iss most : ℕ) where
   good_plain : (c : ClientFields) (s : SegmentFields) (now : ℕ) → AtMost most s.ack → IsHeld end iss most c → IsGood end iss most (at_plain c s now)
   unfolding at_plain
   good_plain c s now seen held =
-      let t = heard c s now in
-      let first = good_heard c s now seen held in
+      let t = at_acknowledgment c s now in
+      let first = good_acknowledgment c s now seen held in
       good_following t.acts (at_fin t.after.state t.after s now) first.proper (good_at_fin t.after.state t.after s now first.held)
 
   good_later : (c : ClientFields) (s : SegmentFields) (now : ℕ) → AtMost most s.ack → IsHeld end iss most c → IsGood end iss most (at_later c s now)

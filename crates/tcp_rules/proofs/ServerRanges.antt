@@ -9,7 +9,7 @@ use Rattle.sim_base.specs.SegmentFields.{SegmentFields, IsSegment}
 use Rattle.tcp_clock.proofs.Ranges.{first_timeout_ranged, backed_off_ranged}
 use Rattle.tcp_rules.specs.declared.records.Act.TheVariants.{Send}
 use Rattle.tcp_rules.specs.Segments.{IsTimedTcp, Turn, quiet, following, carries, data_of, is_ack_of, sent_of, Each}
-use Rattle.tcp_rules.specs.Servers.{ServerFields, server_syn_ack, server_ack, server_fin, furthest, hole, listened, accepted, fits, kept_with, fin_with, keeping, moved, told, finishing, at_end, at_kept, at_data, established, opening, at_start, server_closed, at_last, server_at, server_segment, server_last, server_timeout}
+use Rattle.tcp_rules.specs.Servers.{ServerFields, server_syn_ack, server_ack, server_fin, furthest, hole, listened, accepted, fits, kept_with, fin_with, keeping, moved, delivery_of, finishing, at_end, at_kept, at_data, established, opening, at_start, server_closed, at_last, server_at, server_segment, server_last, server_timeout}
 use Rattle.tcp_rules.specs.Limits.{IsServerEnd}
 use Rattle.tcp_rules.proofs.Cases.{if_case}
 use Rattle.tcp_rules.proofs.Holes.{hole_low, hole_high, furthest_added, furthest_beyond}
@@ -48,9 +48,9 @@ quiet_turn s is = record { server = is; segments = tt; few = omega arith }
 one_turn : (s : ServerFields) (g : SegmentFields) → IsServerEnd s → IsSegment g → IsServerTurn (record { after = s; acts = Send g ∷ [] })
 one_turn s g is sends = record { server = is; segments = (sends, tt); few = omega arith }
 
-told_turn : (bytes : ℕ) (t : Turn ServerFields) → IsServerTurn t → IsServerTurn (following (told bytes) t)
-told_turn zero t turn = record { server = turn.server; segments = turn.segments; few = turn.few }
-told_turn (suc n) t turn = record { server = turn.server; segments = turn.segments; few = turn.few }
+delivery_turn : (bytes : ℕ) (t : Turn ServerFields) → IsServerTurn t → IsServerTurn (following (delivery_of bytes) t)
+delivery_turn zero t turn = record { server = turn.server; segments = turn.segments; few = turn.few }
+delivery_turn (suc n) t turn = record { server = turn.server; segments = turn.segments; few = turn.few }
 
 -- Opening.
 listened_ranged : (config : TcpConfig) (syn : SegmentFields) (now : ℕ) → IsTimedTcp config → IsSegment syn → IsServerEnd (listened config syn now)
@@ -135,7 +135,7 @@ unfolding at_data at_kept
 data_turn s g now segment is = if_case IsServerTurn (carries g)
     (λ e.
     let k = keeping s g in
-    told_turn (hole k.kept k.rcv - k.rcv) (at_end (moved k) now) (end_turn (moved k) now (moved_ranged k (keeping_ranged s g segment is))))
+    delivery_turn (hole k.kept k.rcv - k.rcv) (at_end (moved k) now) (end_turn (moved k) now (moved_ranged k (keeping_ranged s g segment is))))
     (λ e. quiet_turn s is)
 
 -- Segments.

@@ -9,7 +9,7 @@ use Rattle.tcp_clock.specs.Congestion.{first_window, grown}
 use Rattle.tcp_rules.specs.declared.records.Act.{Act}
 use Rattle.tcp_rules.specs.declared.records.Act.TheVariants.{Entered, Delivered, Send}
 use Rattle.tcp_rules.specs.Segments.{Turn}
-use Rattle.tcp_rules.specs.Clients.{measured, timing_at_send, deadline_at, opened, edge, data_stop, data_count, fin_sent, sent, at_syn_ack, at_new_ack, at_ack, heard, at_plain, at_opening, at_later, at_last_fin}
+use Rattle.tcp_rules.specs.Clients.{measured, timing_at_send, deadline_at, opened, edge, data_stop, data_count, fin_sent, sent, at_syn_ack, at_new_ack, at_ack, at_acknowledgment, at_plain, at_opening, at_later, at_last_fin}
 use Rattle.tcp_rules.specs.Servers.{added, hole, listened, kept_with, fin_with, at_end, at_kept, at_data, at_start, at_last}
 use Rattle.tcp_rules.specs.Sessions.{End, connecting, accepting, at_segment, at_timeout, deadline_of, state_of, delivered_of}
 
@@ -65,7 +65,7 @@ client_ends : seen client2 ≡ record {
   delivered = 0;
   acts = Send (segment 1101 (Some 501) false false 500) ∷ Entered FinWait1 ∷ Send (segment 1601 (Some 501) false true 0) ∷ [];
 }
-unfolding connecting opened first_timeout first_window at_opening at_syn_ack sent data_stop data_count fin_sent edge measured timing_at_send deadline_at sampled at_later at_plain heard at_ack at_new_ack grown
+unfolding connecting opened first_timeout first_window at_opening at_syn_ack sent data_stop data_count fin_sent edge measured timing_at_send deadline_at sampled at_later at_plain at_acknowledgment at_ack at_new_ack grown
 client_ends = refl
 
 client_waits : seen client3 ≡ record {
@@ -74,7 +74,7 @@ client_waits : seen client3 ≡ record {
   delivered = 0;
   acts = Entered FinWait2 ∷ Entered TimeWait ∷ Send (segment 1602 (Some 502) false false 0) ∷ [];
 }
-unfolding connecting opened first_timeout first_window at_opening at_syn_ack sent data_stop data_count fin_sent edge measured timing_at_send deadline_at sampled at_later at_plain heard at_ack at_new_ack grown at_last_fin
+unfolding connecting opened first_timeout first_window at_opening at_syn_ack sent data_stop data_count fin_sent edge measured timing_at_send deadline_at sampled at_later at_plain at_acknowledgment at_ack at_new_ack grown at_last_fin
 client_waits = refl
 
 client_closes : seen (at_timeout client3.after 120600000000) ≡ record {
@@ -83,7 +83,7 @@ client_closes : seen (at_timeout client3.after 120600000000) ≡ record {
   delivered = 0;
   acts = Entered Closed ∷ [];
 }
-unfolding connecting opened first_timeout first_window at_opening at_syn_ack sent data_stop data_count fin_sent edge measured timing_at_send deadline_at sampled at_later at_plain heard at_ack at_new_ack grown at_last_fin
+unfolding connecting opened first_timeout first_window at_opening at_syn_ack sent data_stop data_count fin_sent edge measured timing_at_send deadline_at sampled at_later at_plain at_acknowledgment at_ack at_new_ack grown at_last_fin
 client_closes = refl
 
 abbrev server0 : Turn End

@@ -249,8 +249,8 @@ abbrev pub at_any_ack : Option ℕ → ClientFields → SegmentFields → (now :
 at_any_ack None c s now = quiet c
 at_any_ack (Some ack) c s now = at_ack c s ack now
 
-unfoldable pub heard : ClientFields → SegmentFields → (now : ℕ) → Turn ClientFields
-heard c s now = if hears c.state then at_any_ack s.ack c s now else quiet c
+unfoldable pub at_acknowledgment : ClientFields → SegmentFields → (now : ℕ) → Turn ClientFields
+at_acknowledgment c s now = if hears c.state then at_any_ack s.ack c s now else quiet c
 
 -- The peer's FIN (RFC 793 section 3.5): twice the maximum segment lifetime follows.
 abbrev pub finished : ClientFields → ℕ → ClientFields
@@ -270,7 +270,7 @@ at_fin _ c s now = quiet c
 -- a segment without SYN: its acknowledgment, and then its FIN
 unfoldable pub at_plain : ClientFields → SegmentFields → ℕ → Turn ClientFields
 at_plain c s now =
-    let first = heard c s now in
+    let first = at_acknowledgment c s now in
     let next = first.after in
     following first.acts (at_fin next.state next s now)
 

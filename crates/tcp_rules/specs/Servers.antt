@@ -129,9 +129,9 @@ moved s =
     let to = hole s.kept s.rcv in
     record s { rcv = to; kept = beyond to s.kept; delivered = s.delivered + (to - s.rcv) }
 
-abbrev pub told : ℕ → List Act
-told zero = []
-told (suc n) = Delivered (suc n) ∷ []
+abbrev pub delivery_of : ℕ → List Act
+delivery_of zero = []
+delivery_of (suc n) = Delivered (suc n) ∷ []
 
 -- where rcv reaches the peer's FIN it passes it, and the own FIN goes out: there is nothing to send
 -- before it (RFC 793 section 3.5, where CLOSE-WAIT takes no time)
@@ -145,7 +145,7 @@ at_end s now =
     else record { after = s; acts = Send (server_ack s) ∷ [] }
 
 unfoldable pub at_kept : ServerFields → ℕ → Turn ServerFields
-at_kept s now = following (told (hole s.kept s.rcv - s.rcv)) (at_end (moved s) now)
+at_kept s now = following (delivery_of (hole s.kept s.rcv - s.rcv)) (at_end (moved s) now)
 
 -- a segment with data or a FIN
 unfoldable pub at_data : ServerFields → SegmentFields → ℕ → Turn ServerFields

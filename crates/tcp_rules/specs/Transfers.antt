@@ -73,8 +73,3 @@ pub record HoldsOnly (first : ℕ) (segments : List SegmentFields) (s : ServerFi
   pub passed : (position : ℕ) → first ≤ position → position < s.rcv → LiesAmong position segments
   pub keeps : (position : ℕ) → covers s.kept position ≡ true → LiesAmong position segments
   pub fin : (position : ℕ) → s.fin ≡ Some position → LiesAmong position segments
-
--- a segment is one of a list
-abbrev pub IsAmong : SegmentFields → List SegmentFields → Type 0
-IsAmong s [] = ⊥
-IsAmong s (g ∷ gs) = (s ≡ g) ⊎ IsAmong s gs

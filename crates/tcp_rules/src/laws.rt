@@ -1,5 +1,6 @@
 //! Laws of the rules: the contracts of functions with empty bodies.
 ghost use Rattle.std.specs.Prelude.{◌≡◌, ℕ, ◌+◌, ◌≤◌, ◌^◌, ◌||◌, List, [], ◌++◌};
+ghost use Rattle.std.specs.List.{Contains};
 ghost use Rattle.sim_base.specs.SegmentFields.{SegmentFields, IsSegment};
 ghost use Rattle.sim_base.specs.declared.records.TcpConfig.{TcpConfig};
 ghost use Rattle.tcp_rules.specs.declared.records.Range.{Range};
@@ -8,7 +9,7 @@ ghost use Rattle.tcp_rules.specs.Clients.{ClientFields, data_out, sent_next};
 ghost use Rattle.tcp_rules.specs.Servers.{ServerFields, accepted, added, beyond, covers, hole, holds, IsHole, server_segment, server_timeout};
 ghost use Rattle.tcp_rules.specs.Sessions.{End, connecting, accepting, at_segment, at_timeout};
 ghost use Rattle.tcp_rules.specs.Limits.{IsClientEnd, IsEnd, IsOrderly};
-ghost use Rattle.tcp_rules.specs.Transfers.{Step, IsSound, HoldsOnly, IsAmong, after_steps, beginning};
+ghost use Rattle.tcp_rules.specs.Transfers.{Step, IsSound, HoldsOnly, after_steps, beginning};
 
 /// Whatever a network loses, repeats, delays or reorders, and whenever deadlines pass: a server
 /// delivers no more bytes than the client has, it passes only positions of segments that the client
@@ -33,7 +34,7 @@ pub fn sessions_are_orderly()
 /// timeout; it does so of more segments; and one that has just accepted a SYN holds none after it.
 pub fn servers_hold_only_what_came()
     ensures accepting { (config : TcpConfig) (syn : SegmentFields) (now : ℕ) → HoldsOnly (syn.seq + 1) [] (accepted config syn now).after }
-    ensures segment { (first : ℕ) (gs : List SegmentFields) (s : ServerFields) (g : SegmentFields) (now : ℕ) → IsAmong g gs
+    ensures segment { (first : ℕ) (gs : List SegmentFields) (s : ServerFields) (g : SegmentFields) (now : ℕ) → Contains gs g
         → HoldsOnly first gs s → HoldsOnly first gs (server_segment s g now).after }
     ensures timeout { (first : ℕ) (gs : List SegmentFields) (s : ServerFields) (now : ℕ)
         → HoldsOnly first gs s → HoldsOnly first gs (server_timeout s now).after }

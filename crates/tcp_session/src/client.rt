@@ -50,7 +50,7 @@ impl Client {
     ghost use Rattle.tcp_rules.specs.Segments.{IsTimedTcp, span};
     ghost use Rattle.tcp_rules.specs.Clients.{ClientFields, client_ack, client_fin, client_data, first_segment, timing_at_send, advanced, deadline_at, with_deadline, opened};
     ghost use Rattle.tcp_rules.specs.Clients.{edge, data_stop, data_count, data_sent, fin_sent, sent, synchronized, at_syn_ack, acknowledged, at_new_ack, is_duplicate};
-    ghost use Rattle.tcp_rules.specs.Clients.{at_duplicate, at_ack, hears, heard, at_last_fin, at_fin, at_plain, at_opening, at_later, client_segment};
+    ghost use Rattle.tcp_rules.specs.Clients.{at_duplicate, at_ack, hears, at_acknowledgment, at_last_fin, at_fin, at_plain, at_opening, at_later, client_segment};
     ghost use Rattle.tcp_rules.specs.Limits.{IsClientEnd};
     ghost use Rattle.tcp_rules.specs.Clients.{fin_acknowledged, client_closed, window_after_timeout, retransmitted, at_client_timeout, client_timeout};
 
@@ -430,12 +430,17 @@ impl Client {
         Ok(())
     }
 
-    /// What the acknowledgment of a segment says, where the state hears it.
-    #[tactic(auto, unfolding(tcp_rules::specs::Clients::heard))]
-    fn hear(&mut self, segment: &Segment, now: u64, acts: &mut Vec<Act>) -> Result<(), AllocError>
+    /// What the acknowledgment of a segment says, where the state minds it.
+    #[tactic(auto, unfolding(tcp_rules::specs::Clients::at_acknowledgment))]
+    fn at_acknowledgment(
+        &mut self,
+        segment: &Segment,
+        now: u64,
+        acts: &mut Vec<Act>,
+    ) -> Result<(), AllocError>
         requires { now ≤ 10 ^ 18 }
-        ensures client { OnOk result (self.new ≡ (heard self.old segment.now now).after) }
-        ensures acts { OnOk result (acts.new.items ≡ acts.old.items ++ (heard self.old segment.now now).acts) }
+        ensures client { OnOk result (self.new ≡ (at_acknowledgment self.old segment.now now).after) }
+        ensures acts { OnOk result (acts.new.items ≡ acts.old.items ++ (at_acknowledgment self.old segment.now now).acts) }
         ensures same { OnErr result (self.new ≡ self.old) }
         ensures kept { OnErr result (acts.new.items ≡ acts.old.items) }
         ensures room { OnOk result (vec_len acts.new + 2 ≤ vec_capacity acts.new) }
@@ -500,7 +505,7 @@ impl Client {
         ensures same { OnErr result (self.new ≡ self.old) }
         ensures kept { OnErr result (acts.new.items ≡ acts.old.items) }
     {
-        self.hear(segment, now, acts)?;
+        self.at_acknowledgment(segment, now, acts)?;
         self.at_fin(segment, now, acts);
         Ok(())
     }

@@ -1,6 +1,6 @@
 //! The server: the end that a connection is opened to, and that receives.
 ghost use Rattle.std.specs.Prelude.{◌≡◌, ◌+◌, ◌<◌, ◌≤◌, ◌++◌, vec_len, vec_capacity};
-ghost use Rattle.tcp_rules.specs.Servers.{told};
+ghost use Rattle.tcp_rules.specs.Servers.{delivery_of};
 
 use crate::ranges::Ranges;
 use crate::segments;
@@ -172,7 +172,7 @@ impl Server {
         ensures acts { acts.new.items ≡ acts.old.items ++ (at_kept self.old now).acts }
     {
         let bytes = self.advance();
-        tell(bytes, acts);
+        add_delivery(bytes, acts);
         self.answer(now, acts);
     }
 
@@ -377,10 +377,10 @@ impl Server {
     }
 }
 
-/// Tells of bytes that were delivered, where there are any.
-fn tell(bytes: u64, acts: &mut Vec<Act>)
+/// Adds that so many bytes were delivered, where there are any.
+fn add_delivery(bytes: u64, acts: &mut Vec<Act>)
     requires { vec_len acts.old < vec_capacity acts.old }
-    ensures acts { acts.new.items ≡ acts.old.items ++ told bytes }
+    ensures acts { acts.new.items ≡ acts.old.items ++ delivery_of bytes }
     ensures len { vec_len acts.new ≤ vec_len acts.old + 1 }
     ensures capacity { vec_capacity acts.new ≡ vec_capacity acts.old }
 {
