@@ -1,0 +1,5 @@
+pub mod Parts
+pub mod Bounds
+pub mod Shared
+pub mod Sound
+pub mod Steps
