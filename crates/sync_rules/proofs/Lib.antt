@@ -1,3 +1,4 @@
 mod Rows
 pub mod Runs
 pub mod Writes
+pub mod Standing
