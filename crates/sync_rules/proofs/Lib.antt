@@ -2,3 +2,4 @@ mod Rows
 pub mod Runs
 pub mod Writes
 pub mod Standing
+pub mod Windows
