@@ -3,3 +3,4 @@ pub mod Runs
 pub mod Writes
 pub mod Standing
 pub mod Windows
+pub mod Bounds
