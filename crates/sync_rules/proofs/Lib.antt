@@ -4,3 +4,4 @@ pub mod Writes
 pub mod Standing
 pub mod Windows
 pub mod Bounds
+pub mod Executes
