@@ -5,3 +5,4 @@ pub mod Standing
 pub mod Windows
 pub mod Bounds
 pub mod Executes
+pub mod Posts
