@@ -6,3 +6,5 @@ pub mod Windows
 pub mod Bounds
 pub mod Executes
 pub mod Posts
+pub mod Enters
+pub mod Reports
