@@ -8,3 +8,4 @@ pub mod Executes
 pub mod Posts
 pub mod Enters
 pub mod Reports
+pub mod Cores

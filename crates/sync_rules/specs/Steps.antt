@@ -1,8 +1,8 @@
 -- The six steps: when each of them is enabled, and what it makes of the parts that it touches. Each leaves all else as it is.
-use Rattle.std.specs.Prelude.{ℕ, zero, suc, ◌≡◌, ◌+◌, ◌<◌, ◌≤◌, ◌⊎◌, Bool, true, false, cond, nat_le, ◌&&◌, min, max, List, [], ◌∷◌, ◌++◌, length}
+use Rattle.std.specs.Prelude.{ℕ, zero, suc, ◌≡◌, ◌+◌, ◌<◌, ◌≤◌, ◌⊎◌, Bool, true, false, cond, nat_le, ◌&&◌, min, max, List, [], ◌∷◌, ◌++◌, length, Some}
 use Rattle.std.specs.List.{filter}
 use Rattle.event_order.specs.Pending.{put_all}
-use Rattle.ssf_model.specs.Scene.{Scene, Net, time_of, channel_of}
+use Rattle.ssf_model.specs.Scene.{Scene, Net, world_at, event_at, time_of, channel_of}
 use Rattle.ssf_model.specs.Truth.{is_on_line, has_channel, next_window}
 use Rattle.sync_rules.specs.Parts.{Line, MailOf, BarrierOf, CoreOf, put_at}
 use Rattle.sync_rules.specs.Bounds.{IsInto, IsOutOf, goes_out, bound_of, head_time, low_of, promise_of, least_ahead_of}
@@ -223,14 +223,38 @@ with_mail c m t = record { lines = t.lines; mails = put_at c m t.mails; barrier 
 abbrev pub with_barrier : {E : Type 0} → BarrierOf → CoreOf E → CoreOf E
 with_barrier b t = record { lines = t.lines; mails = t.mails; barrier = b }
 
--- some step is enabled
-pub data IsEnabled {X E : Type 0} (s : Scene X E) (budget : ℕ) (t : CoreOf E) : Type 0 where
-  executes : (i : ℕ) → i < s.net.timelines → CanExecute s budget i (t.lines i) → IsEnabled s budget t
-  posts : (c : ℕ) → s.net.cross c ≡ true → CanPost s (s.net.sender c) c (t.lines (s.net.sender c)) (t.mails c) → IsEnabled s budget t
-  takes : (c : ℕ) → s.net.cross c ≡ true → CanTake c (t.lines (s.net.receiver c)) (t.mails c) → IsEnabled s budget t
-  enters : (i : ℕ) → i < s.net.timelines → CanEnter s.net i (t.lines i) t.barrier → IsEnabled s budget t
-  reports : (i : ℕ) → i < s.net.timelines → CanReport s i (t.lines i) t.barrier → IsEnabled s budget t
-  crosses : CanCross s.net.timelines t.barrier → IsEnabled s budget t
+-- all parts after timeline i executed its first pending event, which is event number n of the run
+abbrev pub executed_core : {X E : Type 0} → Scene X E → ℕ → ℕ → List E → List E → CoreOf E → CoreOf E
+executed_core s i n writes rest t = with_line i (executed_line s i n writes rest (t.lines i)) t
+
+-- after what is in the outbox of channel c moved to its mail
+abbrev pub posted_core : {X E : Type 0} → Scene X E → ℕ → CoreOf E → CoreOf E
+posted_core s c t =
+    let i = s.net.sender c in
+    with_mail c (posted_mail s i c (t.lines i) (t.mails c)) (with_line i (posted_line c (t.lines i)) t)
+
+-- after the mail of channel c was taken
+abbrev pub taken_core : {X E : Type 0} → Scene X E → ℕ → CoreOf E → CoreOf E
+taken_core s c t =
+    let i = s.net.receiver c in
+    with_mail c (taken_mail (t.mails c)) (with_line i (taken_line s c (t.lines i) (t.mails c)) t)
+
+-- after timeline i entered the barrier's window, and after it reported
+abbrev pub entered_core : {X E : Type 0} → Scene X E → ℕ → CoreOf E → CoreOf E
+entered_core s i t = with_line i (entered_line s t.barrier.window (t.lines i)) t
+
+abbrev pub reported_core : {X E : Type 0} → Scene X E → ℕ → CoreOf E → CoreOf E
+reported_core s i t = with_barrier (reported_barrier s i (t.lines i) t.barrier) t
+
+-- some step that is enabled makes the parts t of the parts before
+pub data IsStep {X E : Type 0} (s : Scene X E) (budget : ℕ) (before t : CoreOf E) : Type 0 where
+  executes : (i n : ℕ) → i < s.net.timelines → (may : CanExecute s budget i (before.lines i)) → event_at s n ≡ Some may.head
+      → t ≡ executed_core s i n (s.machine.writes (world_at s n).state may.head) may.rest before → IsStep s budget before t
+  posts : (c : ℕ) → s.net.cross c ≡ true → CanPost s (s.net.sender c) c (before.lines (s.net.sender c)) (before.mails c) → t ≡ posted_core s c before → IsStep s budget before t
+  takes : (c : ℕ) → s.net.cross c ≡ true → CanTake c (before.lines (s.net.receiver c)) (before.mails c) → t ≡ taken_core s c before → IsStep s budget before t
+  enters : (i : ℕ) → i < s.net.timelines → CanEnter s.net i (before.lines i) before.barrier → t ≡ entered_core s i before → IsStep s budget before t
+  reports : (i : ℕ) → i < s.net.timelines → CanReport s i (before.lines i) before.barrier → t ≡ reported_core s i before → IsStep s budget before t
+  crosses : (after : BarrierOf) → CanCross s.net.timelines before.barrier → IsCrossing s before.barrier after → t ≡ with_barrier after before → IsStep s budget before t
 
 -- timeline i has an event that it may execute but for the budget, which is spent
 pub record IsOver {X E : Type 0} (s : Scene X E) (budget i : ℕ) (l : Line E) : Type 0 where
