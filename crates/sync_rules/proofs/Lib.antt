@@ -9,3 +9,4 @@ pub mod Posts
 pub mod Enters
 pub mod Reports
 pub mod Cores
+pub mod Stuck
