@@ -196,6 +196,13 @@ module _ {X E : Type 0} (s : Scene X E) (lines : ℕ → Line E) where
   pub safe_cases : (safe_bound s lines ≡ s.until + 1) ⊎ ((i : ℕ) × (i < s.net.timelines) × (safe_bound s lines ≡ low_of s i (lines i)))
   safe_cases = least_at s.net.timelines
 
+  most_at : (n : ℕ) → least_low s lines n ≤ s.until + 1
+  most_at zero = omega arith
+  most_at (suc n) = omega (arith, most_at n)
+
+  pub safe_most : safe_bound s lines ≤ s.until + 1
+  safe_most = most_at s.net.timelines
+
   least_over : (n m : ℕ) → m ≤ s.until + 1 → ((i : ℕ) → i < n → m ≤ low_of s i (lines i)) → m ≤ least_low s lines n
   least_over zero m l all = l
   least_over (suc n) m l all = omega (arith, all n (omega arith), least_over n m l (λ i less. all i (omega arith)))

@@ -10,3 +10,4 @@ pub mod Enters
 pub mod Reports
 pub mod Cores
 pub mod Stuck
+pub mod Wholes

@@ -119,3 +119,11 @@ pub record IsSoundCore {X E : Type 0} (s : Scene X E) (v : ℕ) (t : CoreOf E) :
   -- each timeline has executed its events before v, and before the barrier's window where it has reported
   pub done : (i : ℕ) → i < s.net.timelines → HasDone s i v (t.lines i)
   pub reported : (i : ℕ) → i < s.net.timelines → t.barrier.reported i ≡ true → HasDone s i t.barrier.window (t.lines i)
+
+-- ---- where the budget ends
+
+-- e is event number k of the run, on timeline i, and n events of this timeline come before it
+pub record IsOwnEvent {X E : Type 0} (s : Scene X E) (i n k : ℕ) (e : E) : Type 0 where
+  pub is : event_at s k ≡ Some e
+  pub own : is_on_line s i e ≡ true
+  pub count : length (line_events s i k) ≡ n
