@@ -11,3 +11,4 @@ pub mod Reports
 pub mod Cores
 pub mod Stuck
 pub mod Wholes
+pub mod States

@@ -3,3 +3,4 @@ pub mod Bounds
 pub mod Shared
 pub mod Sound
 pub mod Steps
+pub mod Measure
