@@ -12,3 +12,4 @@ pub mod Cores
 pub mod Stuck
 pub mod Wholes
 pub mod States
+pub mod Measures

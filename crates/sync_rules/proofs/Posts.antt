@@ -59,7 +59,7 @@ module _ {X E : Type 0} (s : Scene X E) (sh : IsShared s) (i : ℕ) (l : Line E)
         ]
   ]
 
-  promise_most : (c : ℕ) → promise_of s i c l ≤ s.until + 1
+  pub promise_most : (c : ℕ) → promise_of s i c l ≤ s.until + 1
   promise_most c = elim (test_cases (s.net.appointed c)) [ inl t ↦ rw t (omega arith) | inr f ↦ rw f (omega arith) ]
 
   -- an outbox with its promise is a true parcel
