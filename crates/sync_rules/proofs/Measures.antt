@@ -1,5 +1,7 @@
 -- Each step leaves less to do.
 use Rattle.std.proofs.Common.{◌≡◌, ℕ, zero, suc, ◌+◌, ◌-◌, ◌*◌, ◌<◌, ◌≤◌, ◌⊎◌, Bool, true, false, cond, min, max, nat_eq, nat_lt, List, [], ◌∷◌, ◌++◌, length, Some, refl, sym, ap, ◌∙◌, subst, inl, inr, arith, length-append, eqb-true, eq-eqb}
+use Rattle.std.proofs.Math.Nat.{mul-le-mul_right}
+use native.Mathlib.Nat.{suc-mul}
 use Rattle.std.proofs.lemmas.Grind.{common_steps}
 use Rattle.event_order.proofs.Pending.{test_cases}
 use Rattle.event_order.proofs.Steps.{lt_or_ge, lt_or_same}
@@ -216,3 +218,31 @@ module _ {X E : Type 0} (s : Scene X E) (sh : IsShared s) (budget : ℕ) where
     step_less after (reports i known may same) = subst (λ u. IsLess (left_of s budget u) (left_of s budget t)) (sym same) (report_less i known may.silent)
     step_less after (crosses b may crossing same) = subst (λ u. IsLess (left_of s budget u) (left_of s budget t)) (sym same) (cross_less_time b may crossing)
 
+-- ---- one number
+
+-- a greater digit counts more than all lower ones
+digit_less : (a b base low high : ℕ) → a < b → low < base → a * base + low < b * base + high
+digit_less a b base low high less below =
+    let up : suc a * base ≤ b * base = mul-le-mul_right base less in
+    let next : suc a * base ≡ a * base + base = suc-mul a base in
+    omega (arith, up, next)
+
+digit_same : (a b base low high : ℕ) → a ≤ b → low < high → a * base + low < b * base + high
+digit_same a b base low high most less = let up : a * base ≤ b * base = mul-le-mul_right base most in omega (arith, up)
+
+digit_most : (a b base low high : ℕ) → a ≤ b → low ≤ high → a * base + low ≤ b * base + high
+digit_most a b base low high most below = let up : a * base ≤ b * base = mul-le-mul_right base most in omega (arith, up)
+
+-- less to do is a smaller number, where the last four numbers of it are below the bases
+pub packed_less : (windows events promises parcels : ℕ) (n m : Left) → n.windows < windows → n.events < events → n.promises < promises → n.parcels < parcels
+    → IsLess n m → packed windows events promises parcels n < packed windows events promises parcels m
+packed_less windows events promises parcels n m a b c d (in_time l) =
+    digit_less _ _ parcels _ _ (digit_less _ _ promises _ _ (digit_less _ _ events _ _ (digit_less _ _ windows _ _ l a) b) c) d
+packed_less windows events promises parcels n m a b c d (in_windows l0 l) =
+    digit_less _ _ parcels _ _ (digit_less _ _ promises _ _ (digit_less _ _ events _ _ (digit_same _ _ windows _ _ l0 l) b) c) d
+packed_less windows events promises parcels n m a b c d (in_events l0 l1 l) =
+    digit_less _ _ parcels _ _ (digit_less _ _ promises _ _ (digit_same _ _ events _ _ (digit_most _ _ windows _ _ l0 l1) l) c) d
+packed_less windows events promises parcels n m a b c d (in_promises l0 l1 l2 l) =
+    digit_less _ _ parcels _ _ (digit_same _ _ promises _ _ (digit_most _ _ events _ _ (digit_most _ _ windows _ _ l0 l1) l2) l) d
+packed_less windows events promises parcels n m a b c d (in_parcels l0 l1 l2 l3 l) =
+    digit_same _ _ parcels _ _ (digit_most _ _ promises _ _ (digit_most _ _ events _ _ (digit_most _ _ windows _ _ l0 l1) l2) l3) l
