@@ -104,13 +104,13 @@ module _ {X E : Type 0} (s : Scene X E) (sh : IsShared s) (v : ℕ) (t : CoreOf 
         parts_keep s v t sound from l (posted_is_sound s sh from (t.lines from) line c) (sound.entered from known) (omega arith)
         c m (posted_mail_is_sound s sh from (t.lines from) line c (t.mails c) out (sound.mails c cross) (sound.posted c cross))
         (λ b own. put_each (λ n (x : MailOf E). x.posted ≡ (put_at from l t.lines (s.net.sender n)).posted n) c m t.mails b
-          (λ same. subst (λ n. m.posted ≡ (put_at from l t.lines (s.net.sender n)).posted n) (sym same)
-            (rw (put_here from l t.lines) (sym (put_here c ((t.lines from).written c) (t.lines from).posted))))
-          (λ apart. sound.posted b own ∙ put_each (λ n (x : Line E). (t.lines n).posted b ≡ x.posted b) from l t.lines (s.net.sender b)
-            (λ same. ap (λ n. (t.lines n).posted b) same ∙ sym (put_else c b ((t.lines from).written c) (t.lines from).posted apart)) (λ other. refl)))
+        (λ same. subst (λ n. m.posted ≡ (put_at from l t.lines (s.net.sender n)).posted n) (sym same)
+        (rw (put_here from l t.lines) (sym (put_here c ((t.lines from).written c) (t.lines from).posted))))
+        (λ apart. sound.posted b own ∙ put_each (λ n (x : Line E). (t.lines n).posted b ≡ x.posted b) from l t.lines (s.net.sender b)
+        (λ same. ap (λ n. (t.lines n).posted b) same ∙ sym (put_else c b ((t.lines from).written c) (t.lines from).posted apart)) (λ other. refl)))
         (λ b own. put_each (λ n (x : MailOf E). x.taken ≡ (t.mails n).taken) c m t.mails b (λ same. ap (λ n. (t.mails n).taken) (sym same)) (λ apart. refl)
-          ∙ (sound.taken b own ∙ put_each (λ n (x : Line E). (t.lines n).taken b ≡ x.taken b) from l t.lines (s.net.receiver b)
-            (λ same. ap (λ n. (t.lines n).taken b) same) (λ other. refl)))
+        ∙ (sound.taken b own ∙ put_each (λ n (x : Line E). (t.lines n).taken b ≡ x.taken b) from l t.lines (s.net.receiver b)
+        (λ same. ap (λ n. (t.lines n).taken b) same) (λ other. refl)))
 
     pub take_keeps : IsSoundCore s v (taken_core s c t)
     take_keeps =
@@ -122,17 +122,17 @@ module _ {X E : Type 0} (s : Scene X E) (sh : IsShared s) (v : ℕ) (t : CoreOf 
         let m = taken_mail mail in
         let sent = sound.mails c cross in
         let parcel : IsTrueParcel s c ((t.lines to).taken c) mail.events mail.posted mail.appointment =
-            subst (λ n. IsTrueParcel s c n mail.events mail.posted mail.appointment) (sound.taken c cross) sent.parcel in
+        subst (λ n. IsTrueParcel s c n mail.events mail.posted mail.appointment) (sound.taken c cross) sent.parcel in
         parts_keep s v t sound to l (taken_is_sound s sh to (t.lines to) line c into mail parcel) (sound.entered to known) (omega arith)
         c m (taken_mail_is_sound s c mail sent)
         (λ b own. put_each (λ n (x : MailOf E). x.posted ≡ (t.mails n).posted) c m t.mails b (λ same. ap (λ n. (t.mails n).posted) (sym same)) (λ apart. refl)
-          ∙ (sound.posted b own ∙ put_each (λ n (x : Line E). (t.lines n).posted b ≡ x.posted b) to l t.lines (s.net.sender b)
-            (λ same. ap (λ n. (t.lines n).posted b) same) (λ other. refl)))
+        ∙ (sound.posted b own ∙ put_each (λ n (x : Line E). (t.lines n).posted b ≡ x.posted b) to l t.lines (s.net.sender b)
+        (λ same. ap (λ n. (t.lines n).posted b) same) (λ other. refl)))
         (λ b own. put_each (λ n (x : MailOf E). x.taken ≡ (put_at to l t.lines (s.net.receiver n)).taken n) c m t.mails b
-          (λ same. subst (λ n. m.taken ≡ (put_at to l t.lines (s.net.receiver n)).taken n) (sym same)
-            (rw (put_here to l t.lines) (sym (put_here c mail.posted (t.lines to).taken))))
-          (λ apart. sound.taken b own ∙ put_each (λ n (x : Line E). (t.lines n).taken b ≡ x.taken b) to l t.lines (s.net.receiver b)
-            (λ same. ap (λ n. (t.lines n).taken b) same ∙ sym (put_else c b mail.posted (t.lines to).taken apart)) (λ other. refl)))
+        (λ same. subst (λ n. m.taken ≡ (put_at to l t.lines (s.net.receiver n)).taken n) (sym same)
+        (rw (put_here to l t.lines) (sym (put_here c mail.posted (t.lines to).taken))))
+        (λ apart. sound.taken b own ∙ put_each (λ n (x : Line E). (t.lines n).taken b ≡ x.taken b) to l t.lines (s.net.receiver b)
+        (λ same. ap (λ n. (t.lines n).taken b) same ∙ sym (put_else c b mail.posted (t.lines to).taken apart)) (λ other. refl)))
 
   pub reports_keep : (i : ℕ) → i < s.net.timelines → CanReport s i (t.lines i) t.barrier → IsSoundCore s v (reported_core s i t)
   reports_keep i known may = record {
@@ -152,7 +152,9 @@ module _ {X E : Type 0} (s : Scene X E) (sh : IsShared s) (v : ℕ) (t : CoreOf 
 
   pub cross_keeps : (after : BarrierOf) → CanCross s.net.timelines t.barrier → IsCrossing s t.barrier after → (w : ℕ) × IsSoundCore s w (with_barrier after t)
   cross_keeps after may crossing = elim (lt_or_ge s.until (least_report s.until t.barrier.least s.net.timelines)) [
-    | inl late ↦ (v, subst (λ b. IsSoundCore s v (with_barrier b t)) (sym (crossing.ends late)) (record {
+    | inl late ↦ (
+      v,
+      subst (λ b. IsSoundCore s v (with_barrier b t)) (sym (crossing.ends late)) (record {
         lines = sound.lines;
         mails = sound.mails;
         barrier = ended_is_sound s sh v t.barrier sound.barrier may.all_in late;
@@ -161,20 +163,23 @@ module _ {X E : Type 0} (s : Scene X E) (sh : IsShared s) (v : ℕ) (t : CoreOf 
         entered = sound.entered;
         done = sound.done;
         reported = sound.reported;
-      }))
+      }),
+    )
     | inr early ↦ (let next = crossing.goes_on early in
         let barrier = next_is_sound s sh v t.barrier sound.barrier may.all_in after early next in
-        let rises = window_not_before s sh after.round t.barrier.window after.window barrier.window in
-        (t.barrier.window, record {
-          lines = sound.lines;
-          mails = sound.mails;
-          barrier = barrier;
-          posted = sound.posted;
-          taken = sound.taken;
-          entered = λ i known. (let before = sound.entered i known in omega arith);
-          done = λ i known. sound.reported i known (may.all_in i known);
-          reported = λ i known told. absurd (let wrong : true ≡ false = sym told ∙ next.reported i known in cc);
-        }))
+        let rises = window_not_before s sh after.round t.barrier.window after.window barrier.window in (
+          t.barrier.window,
+          record {
+            lines = sound.lines;
+            mails = sound.mails;
+            barrier = barrier;
+            posted = sound.posted;
+            taken = sound.taken;
+            entered = λ i known. (let before = sound.entered i known in omega arith);
+            done = λ i known. sound.reported i known (may.all_in i known);
+            reported = λ i known told. absurd (let wrong : true ≡ false = sym told ∙ next.reported i known in cc);
+          },
+        ))
   ]
 
   -- all of them

@@ -166,7 +166,7 @@ module _ {X E : Type 0} (s : Scene X E) (sh : IsShared s) (i : ℕ) (l : Line E)
       | inr more ↦
           let one = only k w.written.by more early w.written.is (sender_own l.entered k d w) in
           let there : Among d its = subst (λ e. Among d (s.machine.writes (world_at s p).state e)) one.1
-              (subst (λ j. Among d (s.machine.writes (world_at s j).state w.written.by)) one.0 w.written.among) in
+          (subst (λ j. Among d (s.machine.writes (world_at s j).state w.written.by)) one.0 w.written.among) in
           arrival_each s l.entered its l.arrival d there (record { cross = w.out.cross; late = w.late })
     ];
     arrival_is = elim (arrival_cases s l.entered its l.arrival) [
@@ -174,9 +174,14 @@ module _ {X E : Type 0} (s : Scene X E) (sh : IsShared s) (i : ℕ) (l : Line E)
         | inl top ↦ inl (same ∙ top)
         | inr (d, k, w, from, early, least) ↦ inr (d, k, w, from, omega arith, same ∙ least)
       ]
-      | inr a ↦ inr (a.event, p, sent a.event a.among a.arriving,
-          elim (lt_or_ge p sound.at) [ inl less ↦ (let done = sound.passed p h q.is own less in absurd (omega arith)) | inr more ↦ more ],
-          omega arith, a.is)
+      | inr a ↦ inr (
+        a.event,
+        p,
+        sent a.event a.among a.arriving,
+        elim (lt_or_ge p sound.at) [ inl less ↦ (let done = sound.passed p h q.is own less in absurd (omega arith)) | inr more ↦ more ],
+        omega arith,
+        a.is,
+      )
     ];
   }
 

@@ -106,8 +106,8 @@ module _ {X E : Type 0} (s : Scene X E) (sh : IsShared s) (budget : ℕ) where
         let l = executed_line s i n writes rest (t.lines i) in
         in_events (omega arith) (sum_most _ _ s.net.timelines (λ j there. line_windows i l refl j))
         (sum_less _ _ s.net.timelines i (λ j there. put_each (λ k (x : Line E). budget - x.executed ≤ budget - (t.lines k).executed) i l t.lines j
-          (λ same. subst (λ k. budget - l.executed ≤ budget - (t.lines k).executed) (sym same) (omega arith)) (λ apart. omega arith))
-          known (rw (put_here i l t.lines) (omega arith)))
+        (λ same. subst (λ k. budget - l.executed ≤ budget - (t.lines k).executed) (sym same) (omega arith)) (λ apart. omega arith))
+        known (rw (put_here i l t.lines) (omega arith)))
 
     enter_less : (i : ℕ) → i < s.net.timelines → (t.lines i).entered < t.barrier.window → IsLess (left_of s budget (entered_core s i t)) (left_of s budget t)
     enter_less i known later =
@@ -117,8 +117,8 @@ module _ {X E : Type 0} (s : Scene X E) (sh : IsShared s) (budget : ℕ) where
         let here : window_left t.barrier i l < window_left t.barrier i (t.lines i) = rw (before, after) (omega arith) in
         in_windows (omega arith)
         (sum_less _ _ s.net.timelines i (λ j there. put_each (λ k (x : Line E). window_left t.barrier k x ≤ window_left t.barrier k (t.lines k)) i l t.lines j
-          (λ same. subst (λ k. window_left t.barrier k l ≤ window_left t.barrier k (t.lines k)) (sym same) (omega arith)) (λ apart. omega arith))
-          known (subst (λ (x : Line E). window_left t.barrier i x < window_left t.barrier i (t.lines i)) (sym (put_here i l t.lines)) here))
+        (λ same. subst (λ k. window_left t.barrier k l ≤ window_left t.barrier k (t.lines k)) (sym same) (omega arith)) (λ apart. omega arith))
+        known (subst (λ (x : Line E). window_left t.barrier i x < window_left t.barrier i (t.lines i)) (sym (put_here i l t.lines)) here))
 
     report_less : (i : ℕ) → i < s.net.timelines → t.barrier.reported i ≡ false → IsLess (left_of s budget (reported_core s i t)) (left_of s budget t)
     report_less i known silent =
@@ -126,7 +126,7 @@ module _ {X E : Type 0} (s : Scene X E) (sh : IsShared s) (budget : ℕ) where
         let told : b.reported i ≡ true = put_here i true t.barrier.reported in
         in_windows (omega arith)
         (sum_less _ _ s.net.timelines i (λ j there. elim (test_cases (nat_eq j i)) [ inl e ↦ rw e (omega arith) | inr f ↦ rw f (omega arith) ])
-          known (rw (told, silent) (omega arith)))
+        known (rw (told, silent) (omega arith)))
 
     cross_less_time : (after : BarrierOf) → CanCross s.net.timelines t.barrier → IsCrossing s t.barrier after → IsLess (left_of s budget (with_barrier after t)) (left_of s budget t)
     cross_less_time after may crossing = in_time (elim (lt_or_ge s.until (least_report s.until t.barrier.least s.net.timelines)) [
@@ -187,7 +187,7 @@ module _ {X E : Type 0} (s : Scene X E) (sh : IsShared s) (budget : ℕ) where
           let m = taken_mail mail in
           let u = taken_core s c t in
           let both = moved k l m refl refl (λ b. put_each (λ n x. (t.lines k).held n ≤ x) c (max ((t.lines k).held c) mail.appointment) (t.lines k).held b
-              (λ same. (let one = ap (t.lines k).held same in omega arith)) (λ apart. omega arith)) (omega arith) (λ b apart. refl) in
+          (λ same. (let one = ap (t.lines k).held same in omega arith)) (λ apart. omega arith)) (omega arith) (λ b apart. refl) in
           let line : u.lines k ≡ l = put_here k l t.lines in
           let after : u.mails c ≡ m = put_here c m t.mails in
           elim may [
@@ -203,8 +203,8 @@ module _ {X E : Type 0} (s : Scene X E) (sh : IsShared s) (budget : ℕ) where
             | inl some ↦ by_parcel t u c cross both
                 (let none : length (u.mails c).events ≡ 0 = ap (λ (x : MailOf E). length x.events) after in
                 let same : length ((u.lines (s.net.sender c)).outbox c) ≡ length ((t.lines (s.net.sender c)).outbox c) =
-                    put_each (λ n (x : Line E). length (x.outbox c) ≡ length ((t.lines n).outbox c)) k l t.lines (s.net.sender c)
-                    (λ one. ap (λ n. length ((t.lines n).outbox c)) (sym one)) (λ apart. refl) in
+                put_each (λ n (x : Line E). length (x.outbox c) ≡ length ((t.lines n).outbox c)) k l t.lines (s.net.sender c)
+                (λ one. ap (λ n. length ((t.lines n).outbox c)) (sym one)) (λ apart. refl) in
                 omega arith)
           ]
 

@@ -166,12 +166,12 @@ module _ {X E : Type 0} (s : Scene X E) (sh : IsShared s) (i : ℕ) (l : Line E)
     apart_from first [] all is = tt
     apart_from first (d ∷ ds) all is = (
       λ e a same.
-        let one = all d (inl refl) in
-        let two = all e (inr a) in
-        let equal = one_key s sh d e (inr (one.at, one.write)) (inr (two.at, two.write)) same in
-        let found = stretch_among s c (suc first) m.posted ds e is.1 a in
-        let place = one_place s sh c first found.0 e (subst (λ x. IsWrite s c first x) equal is.0) found.1 in
-        omega (arith, place, found.2),
+          let one = all d (inl refl) in
+          let two = all e (inr a) in
+          let equal = one_key s sh d e (inr (one.at, one.write)) (inr (two.at, two.write)) same in
+          let found = stretch_among s c (suc first) m.posted ds e is.1 a in
+          let place = one_place s sh c first found.0 e (subst (λ x. IsWrite s c first x) equal is.0) found.1 in
+          omega (arith, place, found.2),
       apart_from (suc first) ds (λ e a. all e (inr a)) is.1,
     )
 
@@ -179,9 +179,12 @@ module _ {X E : Type 0} (s : Scene X E) (sh : IsShared s) (i : ℕ) (l : Line E)
     arrives = record {
       own = λ d a. is_line s sh i d (coming d a).receiver;
       across = λ d a.
-          let q = coming d a in
-          (q.at, q.write, true_or_not (is_on_line s i q.write.by) (λ own.
-            sh.joining.apart c into.cross (sym q.sender ∙ ap s.line (sym q.same) ∙ line_is s sh i q.write.by own ∙ sym into.receiver)));
+          let q = coming d a in (
+            q.at,
+            q.write,
+            true_or_not (is_on_line s i q.write.by) (λ own.
+                sh.joining.apart c into.cross (sym q.sender ∙ ap s.line (sym q.same) ∙ line_is s sh i q.write.by own ∙ sym into.receiver)),
+          );
       new = λ d a before.
           let q = coming d a in
           let one = one_place s sh c before.place q.place d (subst (λ b. IsWrite s b before.place d) q.channel before.is) q.is in
@@ -202,10 +205,10 @@ module _ {X E : Type 0} (s : Scene X E) (sh : IsShared s) (i : ℕ) (l : Line E)
           };
       only = λ d after. elim (test_cases (nat_eq (channel_of s d) c)) [
         | inr f ↦ inl (record {
-            place = after.place;
-            is = after.is;
-            below = (let below : after.place < l.taken (channel_of s d) = rw f at after.below in below);
-          })
+          place = after.place;
+          is = after.is;
+          below = (let below : after.place < l.taken (channel_of s d) = rw f at after.below in below);
+        })
         | inl t ↦
             let channel : channel_of s d ≡ c = eqb-true (channel_of s d) c t in
             let below : after.place < m.posted = rw t at after.below in
@@ -234,11 +237,11 @@ module _ {X E : Type 0} (s : Scene X E) (sh : IsShared s) (i : ℕ) (l : Line E)
             let same : b ≡ c = eqb-true b c t in
             let own : s.net.appointed c ≡ true = subst (λ k. s.net.appointed k ≡ true) same appointed in
             rw t (λ k d is early.
-              let write : IsWrite s c k d = subst (λ n. IsWrite s n k d) same is in
-              elim (lt_or_ge (time_of s d) (l.held c)) [
-                | inl less ↦ omega (arith, sound.held c into own k d write less, stretch_length s c (l.taken c) m.posted m.events parcel.events)
-                | inr later ↦ parcel.promise own k d write (omega arith)
-              ])
+            let write : IsWrite s c k d = subst (λ n. IsWrite s n k d) same is in
+            elim (lt_or_ge (time_of s d) (l.held c)) [
+              | inl less ↦ omega (arith, sound.held c into own k d write less, stretch_length s c (l.taken c) m.posted m.events parcel.events)
+              | inr later ↦ parcel.promise own k d write (omega arith)
+            ])
       ];
       held_most = λ b from appointed. elim (test_cases (nat_eq b c)) [
         | inr f ↦ rw f (sound.held_most b from appointed)

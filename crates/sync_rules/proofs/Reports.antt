@@ -76,7 +76,7 @@ module _ {X E : Type 0} (s : Scene X E) (sh : IsShared s) (i : ℕ) (l : Line E)
               absurd (omega (arith, below, bound_entered s.net i l, late, entered))
         ]) in
         let up = made_le s sh c n l.moment out.cross (λ j e early is sends.
-          low_done s sh i l sound x low j e is (subst (λ k. is_on_line s k e ≡ true) out.sender sends) (cut.early j e is early)) in
+        low_done s sh i l sound x low j e is (subst (λ k. is_on_line s k e ≡ true) out.sender sends) (cut.early j e is early)) in
         omega (arith, sound.written c out, down, up);
     opening = λ j e is own late opened. ahead e (sound.standing.opening e own opened (not_executed j e is own late));
     inside = from_inside;
@@ -186,8 +186,11 @@ module _ {X E : Type 0} (s : Scene X E) (sh : IsShared s) (v : ℕ) (b : Barrier
       elim (arises_by s sh j e is) [
         | inl opened ↦ by_report i known (time_of s e) (mine.opening j e is own late opened)
         | inr w ↦ elim (lt_or_ge (time_of s w.written.by) b.window) [
-          | inr after ↦ omega (arith, reached_within n w.at w.written.by (let earlier = w.before in omega arith) w.written.is after,
-              times s sh w.at j w.written.by e (let earlier = w.before in omega arith) w.written.is is)
+          | inr after ↦ omega (
+            arith,
+            reached_within n w.at w.written.by (let earlier = w.before in omega arith) w.written.is after,
+            times s sh w.at j w.written.by e (let earlier = w.before in omega arith) w.written.is is,
+          )
           | inl before ↦ elim (lt_or_ge (time_of s w.written.by) v) [
             | inl early ↦ by_report i known (time_of s e) (mine.early j w.at e is own late w.written early)
             | inr from ↦

@@ -96,14 +96,14 @@ module _ {X E : Type 0} (s : Scene X E) (sh : IsShared s) (i : ℕ) where
         | inr none ↦ lift n p (λ e at. absurd (let wrong : None ≡ Some e = sym none ∙ at in cc)) later
         | inl some ↦ elim (test_cases (is_on_line s i some.0)) [
           | inl t ↦ record {
-              number = n;
-              event = some.0;
-              is = some.1;
-              own = t;
-              from = omega arith;
-              upto = omega arith;
-              none = λ j e a b at. absurd (omega arith);
-            }
+            number = n;
+            event = some.0;
+            is = some.1;
+            own = t;
+            from = omega arith;
+            upto = omega arith;
+            none = λ j e a b at. absurd (omega arith);
+          }
           | inr f ↦ lift n p (λ e at. subst (λ x. is_on_line s i x ≡ false) (one_event s sh n some.0 e some.1 at) f) later
         ]
       ]
@@ -214,10 +214,10 @@ module _ {X E : Type 0} (s : Scene X E) (sh : IsShared s) (i : ℕ) where
       rising = put_all_rises s.machine.key (stays s i its) rest st.rising.1
           (filter_apart s.machine.key (is_on_line s i) _ (filter_apart s.machine.key (λ x. s.kept (s.machine.key x)) its (sh.lawful.apart (world_at s p).state h)))
           (λ x y a b e.
-            let w = write_of x (staying x a) in
-            let one = one_key s sh x y (inr (p, w)) (st.arises y (inr b)) e in
-            let before = st.before x p (subst (λ z. Among z (h ∷ rest)) (sym one) (inr b)) w own_head in
-            omega (arith, before));
+          let w = write_of x (staying x a) in
+          let one = one_key s sh x y (inr (p, w)) (st.arises y (inr b)) e in
+          let before = st.before x p (subst (λ z. Among z (h ∷ rest)) (sym one) (inr b)) w own_head in
+          omega (arith, before));
       own = λ d a. elim (split d a) [ inl w ↦ w.own | inr b ↦ st.own d (inr b) ];
       arises = λ d a. elim (split d a) [ inl w ↦ inr (p, write_of d w) | inr b ↦ st.arises d (inr b) ];
       ahead = λ d j a is. elim (split d a) [
@@ -242,7 +242,7 @@ module _ {X E : Type 0} (s : Scene X E) (sh : IsShared s) (i : ℕ) where
         ]
         | inr same ↦
             let there : Among d its = subst (λ e. Among d (s.machine.writes (world_at s p).state e)) (writer k d w same)
-                (subst (λ j. Among d (s.machine.writes (world_at s j).state w.by)) same w.among) in
+            (subst (λ j. Among d (s.machine.writes (world_at s j).state w.by)) same w.among) in
             among_put_all_self s.machine.key d (stays s i its) rest
             (among_filter (is_on_line s i) d _ (among_filter (λ x. s.kept (s.machine.key x)) d its there w.passes) own)
       ];
@@ -266,9 +266,9 @@ module _ {X E : Type 0} (s : Scene X E) (sh : IsShared s) (i : ℕ) where
   stands_taken n came came' ds ps st q = record {
     rising = put_all_rises s.machine.key ds ps st.rising q.apart
         (λ x y a b e.
-          let w = q.across x a in
-          let one = one_key s sh x y (inr (w.0, w.1)) (st.arises y b) e in
-          q.new x a (st.came_across x w.0 (subst (λ z. Among z ps) (sym one) b) w.1 w.2));
+        let w = q.across x a in
+        let one = one_key s sh x y (inr (w.0, w.1)) (st.arises y b) e in
+        q.new x a (st.came_across x w.0 (subst (λ z. Among z ps) (sym one) b) w.1 w.2));
     own = λ d a. elim (put_all_among s.machine.key d ds ps a) [ inl b ↦ q.own d b | inr b ↦ st.own d b ];
     arises = λ d a. elim (put_all_among s.machine.key d ds ps a) [ inl b ↦ (let w = q.across d b in inr (w.0, w.1)) | inr b ↦ st.arises d b ];
     ahead = λ d j a is. elim (put_all_among s.machine.key d ds ps a) [

@@ -31,10 +31,13 @@ find P Q each (suc n) = elim (find P Q each n) [
 pub crossing_is : {X E : Type 0} (s : Scene X E) (b : BarrierOf) → (after : BarrierOf) × IsCrossing s b after
 crossing_is s b = elim (lt_or_ge s.until (least_report s.until b.least s.net.timelines)) [
   | inl late ↦ (ended_barrier b, record { ends = λ l. refl; goes_on = λ l. absurd (omega arith) })
-  | inr early ↦ (next_barrier s (least_report s.until b.least s.net.timelines) b, record {
+  | inr early ↦ (
+    next_barrier s (least_report s.until b.least s.net.timelines) b,
+    record {
       ends = λ l. absurd (omega arith);
       goes_on = λ l. record { round = refl; window = refl; counts = λ c cross. refl; reported = λ i known. refl; ended = refl };
-    })
+    },
+  )
 ]
 
 module _ {X E : Type 0} (s : Scene X E) (sh : IsShared s) (budget v : ℕ) (t : CoreOf E) (sound : IsSoundCore s v t) where
@@ -78,34 +81,49 @@ module _ {X E : Type 0} (s : Scene X E) (sh : IsShared s) (budget v : ℕ) (t : 
 
   -- so a timeline in an earlier window may enter
   enter_moves : (i : ℕ) → i < s.net.timelines → ((c : ℕ) → s.net.cross c ≡ true → IsQuiet c) → (t.lines i).entered < t.barrier.window → Moves
-  enter_moves i known quiet later = (entered_core s i t, enters i known (record {
-    later = later;
-    taken = λ c into.
-        let from = s.net.sender c in
-        let there = sh.joining.sender c into.cross in
-        let line = sound.lines from there in
-        let own : (t.lines (s.net.receiver c)).taken c ≡ (t.lines i).taken c = ap (λ k. (t.lines k).taken c) into.receiver in
-        let up = made_le s sh c sound.barrier.at (t.lines from).moment into.cross (λ j e early is mine. sound.done from there j e is mine (sound.barrier.cut.early j e is early)) in
-        omega (arith, sound.barrier.counts c into.cross, up, line.written c (record { cross = into.cross; sender = refl }), taken_is c into.cross (quiet c into.cross), own);
-  }) refl)
+  enter_moves i known quiet later = (
+    entered_core s i t,
+    enters i known (record {
+      later = later;
+      taken = λ c into.
+          let from = s.net.sender c in
+          let there = sh.joining.sender c into.cross in
+          let line = sound.lines from there in
+          let own : (t.lines (s.net.receiver c)).taken c ≡ (t.lines i).taken c = ap (λ k. (t.lines k).taken c) into.receiver in
+          let up = made_le s sh c sound.barrier.at (t.lines from).moment into.cross (λ j e early is mine. sound.done from there j e is mine (sound.barrier.cut.early j e is early)) in
+          omega (arith, sound.barrier.counts c into.cross, up, line.written c (record { cross = into.cross; sender = refl }), taken_is c into.cross (quiet c into.cross), own);
+    }) refl,
+  )
 
   -- ---- the timeline of the least lower bound
 
   least_line : (n : ℕ) → 0 < n → (j : ℕ) × (j < n) × ((i : ℕ) → i < n → low_of s j (t.lines j) ≤ low_of s i (t.lines i))
   least_line zero l = absurd (omega arith)
-  least_line (suc zero) l = (0, omega arith, λ i less. (let same : i ≡ 0 = omega arith in
-      let one : low_of s i (t.lines i) ≡ low_of s 0 (t.lines 0) = ap (λ k. low_of s k (t.lines k)) same in omega arith))
+  least_line (suc zero) l = (
+    0,
+    omega arith,
+    λ i less. (let same : i ≡ 0 = omega arith in
+        let one : low_of s i (t.lines i) ≡ low_of s 0 (t.lines 0) = ap (λ k. low_of s k (t.lines k)) same in omega arith),
+  )
   least_line (suc (suc n)) l =
       let (j, known, least) = least_line (suc n) (omega arith) in
       elim (lt_or_ge (low_of s (suc n) (t.lines (suc n))) (low_of s j (t.lines j))) [
-        | inl less ↦ (suc n, omega arith, λ i below. elim (lt_or_same i (suc n) (omega arith)) [
-          | inl before ↦ (let order = least i before in omega arith)
-          | inr same ↦ (let one : low_of s i (t.lines i) ≡ low_of s (suc n) (t.lines (suc n)) = ap (λ k. low_of s k (t.lines k)) same in omega arith)
-        ])
-        | inr more ↦ (j, omega arith, λ i below. elim (lt_or_same i (suc n) (omega arith)) [
-          | inl before ↦ least i before
-          | inr same ↦ (let one : low_of s i (t.lines i) ≡ low_of s (suc n) (t.lines (suc n)) = ap (λ k. low_of s k (t.lines k)) same in omega arith)
-        ])
+        | inl less ↦ (
+          suc n,
+          omega arith,
+          λ i below. elim (lt_or_same i (suc n) (omega arith)) [
+            | inl before ↦ (let order = least i before in omega arith)
+            | inr same ↦ (let one : low_of s i (t.lines i) ≡ low_of s (suc n) (t.lines (suc n)) = ap (λ k. low_of s k (t.lines k)) same in omega arith)
+          ],
+        )
+        | inr more ↦ (
+          j,
+          omega arith,
+          λ i below. elim (lt_or_same i (suc n) (omega arith)) [
+            | inl before ↦ least i before
+            | inr same ↦ (let one : low_of s i (t.lines i) ≡ low_of s (suc n) (t.lines (suc n)) = ap (λ k. low_of s k (t.lines k)) same in omega arith)
+          ],
+        )
       ]
 
   abbrev Ends : Type 0
@@ -122,11 +140,14 @@ module _ {X E : Type 0} (s : Scene X E) (sh : IsShared s) (budget v : ℕ) (t : 
         let in_time : time_of s q.head ≤ s.until = (let same = q.least in let top = most in omega arith) in
         elim (lt_or_ge (t.lines j).executed budget) [
           | inl few ↦ inl (execute_moves j known (record { head = q.head; rest = q.rest; is = q.is; in_time = in_time; below = q.below; few = few }))
-          | inr spent ↦ inr (j, record {
+          | inr spent ↦ inr (
+            j,
+            record {
               known = known;
               over = record { head = q.head; rest = q.rest; is = q.is; in_time = in_time; below = q.below; spent = spent };
               least = least;
-            })
+            },
+          )
         ]
 
     -- or an appointment holds it, and a greater one can be posted or taken
@@ -168,18 +189,18 @@ module _ {X E : Type 0} (s : Scene X E) (sh : IsShared s) (budget v : ℕ) (t : 
   barrier_moves : t.barrier.ended ≡ false → ((i : ℕ) → i < s.net.timelines → (t.lines i).entered ≡ t.barrier.window) → Moves ⊎ Ends
   barrier_moves goes_on entered = elim (find (λ i. t.barrier.reported i ≡ false) (λ i. t.barrier.reported i ≡ true)
       (λ i. elim (test_cases (t.barrier.reported i)) [ inl told ↦ inr told | inr silent ↦ inl silent ]) s.net.timelines) [
-    | inl (i, known, silent) ↦ silent_moves goes_on entered i known silent
-    | inr all_in ↦ (let crossing = crossing_is s t.barrier in
-        inl (with_barrier crossing.0 t, crosses crossing.0 (record { goes_on = goes_on; all_in = all_in }) crossing.1 refl))
-  ]
+        | inl (i, known, silent) ↦ silent_moves goes_on entered i known silent
+        | inr all_in ↦ (let crossing = crossing_is s t.barrier in
+            inl (with_barrier crossing.0 t, crosses crossing.0 (record { goes_on = goes_on; all_in = all_in }) crossing.1 refl))
+      ]
 
   -- where nothing is on the way
   quiet_moves : t.barrier.ended ≡ false → ((c : ℕ) → s.net.cross c ≡ true → IsQuiet c) → Moves ⊎ Ends
   quiet_moves goes_on quiet = elim (find (λ i. (t.lines i).entered < t.barrier.window) (λ i. t.barrier.window ≤ (t.lines i).entered)
       (λ i. lt_or_ge (t.lines i).entered t.barrier.window) s.net.timelines) [
-    | inl (i, known, later) ↦ inl (enter_moves i known quiet later)
-    | inr all ↦ barrier_moves goes_on (λ i known. (let up = all i known in let down = sound.entered i known in omega arith))
-  ]
+        | inl (i, known, later) ↦ inl (enter_moves i known quiet later)
+        | inr all ↦ barrier_moves goes_on (λ i known. (let up = all i known in let down = sound.entered i known in omega arith))
+      ]
 
   pub never_stuck : t.barrier.ended ≡ false → Moves ⊎ Ends
   never_stuck goes_on = elim (find (λ c. Moves) (λ c. s.net.cross c ≡ true → IsQuiet c) channel_moves s.net.channels) [

@@ -32,8 +32,11 @@ module _ {X E : Type 0} (s : Scene X E) where
   -- a timeline has the more events the longer the run is
   line_more : (i n k : ℕ) → length (line_events s i n) ≤ length (line_events s i (k + n))
   line_more i n zero = rw zero-add (omega arith)
-  line_more i n (suc k) = rw suc-add (omega (arith, line_more i n k,
-      longer (is_on_line s i) (first_events s.machine s.until s.kept s.opening (k + n)) (option_list (event_at s (k + n)))))
+  line_more i n (suc k) = rw suc-add (omega (
+    arith,
+    line_more i n k,
+    longer (is_on_line s i) (first_events s.machine s.until s.kept s.opening (k + n)) (option_list (event_at s (k + n))),
+  ))
 
   pub line_grows : (i n k : ℕ) → n ≤ k → length (line_events s i n) ≤ length (line_events s i k)
   line_grows i n k l = let d = difference n k l in subst (λ j. length (line_events s i n) ≤ length (line_events s i j)) (sym d.1) (line_more i n d.0)
@@ -212,19 +215,21 @@ module _ {X E : Type 0} (s : Scene X E) (sh : IsShared s) where
           let low : low_of s i (t.lines i) ≡ time_of s over.head = rw over.is (let below = over.below in omega arith) in
           let count = counted i ends.known in
           let spent = over.spent in
-          let in_time = over.in_time in
-          (
-            (q.wait + (t.lines i).moment, record {
-              is = q.is;
-              own = line.standing.own over.head (subst (λ ps. Among over.head ps) (sym over.is) (inl refl));
-              count = ap length (share_same s.machine s.until s.kept s.opening (is_on_line s i) q.wait (t.lines i).moment q.none) ∙ omega (arith, count.executed, count.few, spent);
-            }),
+          let in_time = over.in_time in (
+            (
+              q.wait + (t.lines i).moment,
+              record {
+                is = q.is;
+                own = line.standing.own over.head (subst (λ ps. Among over.head ps) (sym over.is) (inl refl));
+                count = ap length (share_same s.machine s.until s.kept s.opening (is_on_line s i) q.wait (t.lines i).moment q.none) ∙ omega (arith, count.executed, count.few, spent);
+              },
+            ),
             (let down = safe_below s t.lines i ends.known in
-              let up = safe_above s t.lines (low_of s i (t.lines i)) (omega (arith, low, in_time)) (λ j known. ends.least j known) in
-              omega (arith, down, up, low)),
+                let up = safe_above s t.lines (low_of s i (t.lines i)) (omega (arith, low, in_time)) (λ j known. ends.least j known) in
+                omega (arith, down, up, low)),
             λ j k e own.
-              let known : j < s.net.timelines = subst (λ n. n < s.net.timelines) (eqb-true (s.line e) j own.own) (sh.placed k e own.is) in
-              omega (arith, low, ends.least j known, not_early s sh j (t.lines j) (sound.lines j known) k e (not_passed j k e own) own.is own.own),
+                let known : j < s.net.timelines = subst (λ n. n < s.net.timelines) (eqb-true (s.line e) j own.own) (sh.placed k e own.is) in
+                omega (arith, low, ends.least j known, not_early s sh j (t.lines j) (sound.lines j known) k e (not_passed j k e own) own.is own.own),
           )
 
     -- what is counted stays counted
@@ -238,8 +243,8 @@ module _ {X E : Type 0} (s : Scene X E) (sh : IsShared s) where
         let q : IsNext s k (t.lines k).moment may.head = next_of s sh k (t.lines k) line budget may in
         let place = one_number s sh (q.wait + (t.lines k).moment) n may.head q.is is in
         let its : IsCounted s budget k (executed_line s k n (s.machine.writes (world_at s n).state may.head) may.rest (t.lines k)) =
-            subst (λ j. IsCounted s budget k (executed_line s k j (s.machine.writes (world_at s j).state may.head) may.rest (t.lines k))) place
-            (executed_is_counted s sh k (t.lines k) line may.head may.rest may.is may.below q budget (counted k there) may.few) in
+        subst (λ j. IsCounted s budget k (executed_line s k j (s.machine.writes (world_at s j).state may.head) may.rest (t.lines k))) place
+        (executed_is_counted s sh k (t.lines k) line may.head may.rest may.is may.below q budget (counted k there) may.few) in
         subst (λ (u : CoreOf E). IsCounted s budget i (u.lines i)) (sym same) (put_counted budget k _ its i (counted i known))
     step_counts budget counted after (posts c cross may same) i known =
         let k = s.net.sender c in

@@ -40,10 +40,13 @@ module _ {X E : Type 0} (s : Scene X E) (sh : IsShared s) where
       | inr none ↦ inr (more_early v k all (λ e is. absurd (let wrong : None ≡ Some e = sym none ∙ is in cc)))
       | inl some ↦ elim (lt_or_ge (time_of s some.0) v) [
         | inl less ↦ inr (more_early v k all (λ e is. let same : Some some.0 ≡ Some e = sym some.1 ∙ is in let one : some.0 ≡ e = cc in subst (λ x. time_of s x < v) one less))
-        | inr late ↦ inl (k, record {
+        | inr late ↦ inl (
+          k,
+          record {
             early = λ j e is l. all j e is l;
             late = λ j e is l. let order = times s sh k j some.0 e l some.1 is in omega arith;
-          })
+          },
+        )
       ]
     ]
   ]
@@ -52,10 +55,13 @@ module _ {X E : Type 0} (s : Scene X E) (sh : IsShared s) where
   pub cut_at : (v : ℕ) → (n : ℕ) × IsCut s v n
   cut_at v = elim (cut_upto v sh.end) [
     | inl found ↦ found
-    | inr all ↦ (sh.end, record {
+    | inr all ↦ (
+      sh.end,
+      record {
         early = λ j e is l. all j e is l;
         late = λ j e is l. let below = before_over s sh j e is in absurd (omega arith);
-      })
+      },
+    )
   ]
 
   -- up to the moment of a later time at least as much is written

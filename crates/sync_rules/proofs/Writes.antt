@@ -196,8 +196,8 @@ module _ {X E : Type 0} (s : Scene X E) where
     same_event c j p k q a b d same first second =
         let one : a ≡ b = one_event s sh k a b (subst (λ n. event_at s n ≡ Some a) same first.written.is) second.written.is in
         let there : slice_get (filter (has_channel s c) (s.machine.writes (world_at s k).state b)) first.index ≡ Some d =
-            subst (λ e. slice_get (filter (has_channel s c) (s.machine.writes (world_at s k).state e)) first.index ≡ Some d) one
-            (subst (λ n. slice_get (filter (has_channel s c) (s.machine.writes (world_at s n).state a)) first.index ≡ Some d) same first.is) in
+        subst (λ e. slice_get (filter (has_channel s c) (s.machine.writes (world_at s k).state e)) first.index ≡ Some d) one
+        (subst (λ n. slice_get (filter (has_channel s c) (s.machine.writes (world_at s n).state a)) first.index ≡ Some d) same first.is) in
         let index = apart_place s.machine.key _ d (filter_apart s.machine.key (has_channel s c) _ (sh.lawful.apart (world_at s k).state b)) first.index second.index there second.is in
         let counts : made s c j ≡ made s c k = ap (made s c) same in
         omega (arith, first.sum, second.sum, counts, index)
@@ -238,15 +238,15 @@ module _ {X E : Type 0} (s : Scene X E) where
             | inl own ↦ made_up c (suc k) n (early k some.0 (omega arith) some.1 own)
             | inr other ↦
                 let none : filter (has_channel s c) (s.machine.writes (world_at s k).state some.0) ≡ [] =
-                    filter_none (has_channel s c) _ (λ d a. elim (test_cases (has_channel s c d)) [
-                      | inr f ↦ f
-                      | inl t ↦
-                          let channel : channel_of s d ≡ c = eqb-true (channel_of s d) c t in
-                          let there : s.line some.0 ≡ s.net.sender (channel_of s d) =
-                              (sh.routed k some.0 d (record { is = some.1; among = a })).sent (ap s.net.cross channel ∙ cross) in
-                          let own : is_on_line s (s.net.sender c) some.0 ≡ true = eq-eqb (s.line some.0) (s.net.sender c) (there ∙ ap s.net.sender channel) in
-                          absurd (let wrong : true ≡ false = sym own ∙ other in cc)
-                    ]) in
+                filter_none (has_channel s c) _ (λ d a. elim (test_cases (has_channel s c d)) [
+                  | inr f ↦ f
+                  | inl t ↦
+                      let channel : channel_of s d ≡ c = eqb-true (channel_of s d) c t in
+                      let there : s.line some.0 ≡ s.net.sender (channel_of s d) =
+                      (sh.routed k some.0 d (record { is = some.1; among = a })).sent (ap s.net.cross channel ∙ cross) in
+                      let own : is_on_line s (s.net.sender c) some.0 ≡ true = eq-eqb (s.line some.0) (s.net.sender c) (there ∙ ap s.net.sender channel) in
+                      absurd (let wrong : true ≡ false = sym own ∙ other in cc)
+                ]) in
                 omega (arith, before, made_event c k some.0 some.1, ap length none)
           ]
         ]
