@@ -15,7 +15,8 @@ use Rattle.sync_rules.specs.Shared.{IsShared, IsWrittenBy}
 use Rattle.sync_rules.specs.Sound.{made, HasCome, IsSentFrom, IsSoundLine, IsCounted}
 use Rattle.sync_rules.specs.Steps.{CanExecute, leaves, least_arrival, executed_line}
 use Rattle.sync_rules.proofs.Runs.{one_event}
-use Rattle.sync_rules.proofs.Writes.{made_up, made_event, made_le, row, stretch_joined, kept_by}
+use Rattle.ssf_model.proofs.Places.{stretch_joined}
+use Rattle.sync_rules.proofs.Writes.{made_up, made_event, made_le, row, kept_by}
 use Rattle.sync_rules.proofs.Standing.{stands_after}
 use Rattle.sync_rules.proofs.Bounds.{goes, out_of, line_is, is_line, head_next}
 

@@ -14,7 +14,8 @@ use Rattle.sync_rules.specs.Shared.{IsShared, IsWrittenBy}
 use Rattle.sync_rules.specs.Sound.{made, HasCome, IsSoundLine, IsSoundMail}
 use Rattle.sync_rules.specs.Steps.{posted_line, posted_mail, taken_line, taken_mail}
 use Rattle.sync_rules.proofs.Runs.{one_key}
-use Rattle.sync_rules.proofs.Writes.{IsPlaced, origin, write_channel, one_place, place_of_write, made_up, stretch_length, stretch_joined, stretch_among, among_stretch, kept_cross}
+use Rattle.ssf_model.proofs.Places.{stretch_length, stretch_joined}
+use Rattle.sync_rules.proofs.Writes.{IsPlaced, origin, one_place, place_of_write, made_up, stretch_among, among_stretch, kept_cross}
 use Rattle.sync_rules.proofs.Standing.{IsArrival, stands_taken}
 use Rattle.sync_rules.proofs.Bounds.{put_here, put_else, put_each, true_or_not, line_is, is_line, bound_held, bound_entered, bound_rises, not_early}
 

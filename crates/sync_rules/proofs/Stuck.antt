@@ -10,7 +10,8 @@ use Rattle.sync_rules.specs.Shared.{IsShared}
 use Rattle.sync_rules.specs.Sound.{made, HasDone, IsSoundLine, IsSoundMail, IsSoundBarrier, IsSoundCore}
 use Rattle.sync_rules.specs.Steps.{CanExecute, CanPost, CanTake, CanEnter, CanReport, CanCross, IsNextRound, IsCrossing, IsStep, IsOver, BudgetEndsAt, least_report, next_barrier, ended_barrier, with_barrier, executed_core, posted_core, taken_core, entered_core, reported_core}
 use Rattle.sync_rules.specs.Steps.IsStep.{executes, posts, takes, enters, reports, crosses}
-use Rattle.sync_rules.proofs.Writes.{stretch_length, made_le}
+use Rattle.ssf_model.proofs.Places.{stretch_length}
+use Rattle.sync_rules.proofs.Writes.{made_le}
 use Rattle.sync_rules.proofs.Windows.{window_most}
 use Rattle.sync_rules.proofs.Standing.{HasHead}
 use Rattle.sync_rules.proofs.Bounds.{IsHolder, bound_cases, low_cases}

@@ -9,7 +9,8 @@ use Rattle.event_order.proofs.Pending.{test_cases, among_append_right, append_am
 use Rattle.event_order.proofs.Steps.{lt_or_ge, lt_or_same, difference}
 use Rattle.ssf_model.specs.Scene.{Scene, world_at, event_at, time_of, channel_of}
 use Rattle.ssf_model.specs.Truth.{is_on_line, writes_within, writes_on, has_channel, IsWrite, IsRunWrite, IsStretch, IsPromise, IsTrueParcel, IsCut, IsKeptWrite}
-use Rattle.ssf_model.proofs.Lists.{place_of, place_more, place_among, among_place, within_of}
+use Rattle.ssf_model.proofs.Lists.{place_of, place_among, among_place, within_of}
+use Rattle.ssf_model.proofs.Places.{one_write, stretch_length, stretch_at, stretch_of}
 use Rattle.sync_rules.specs.Shared.{IsShared, IsWrittenBy, IsRouted}
 use Rattle.sync_rules.specs.Sound.{made}
 use Rattle.sync_rules.proofs.Runs.{some_or_none, given, given_from, next_state, one_event, earlier}
@@ -47,25 +48,6 @@ module _ {X E : Type 0} (s : Scene X E) where
 
   pub on_none : (c n : ℕ) → event_at s n ≡ None → writes_on s c (suc n) ≡ writes_on s c n
   on_none c n is = filter-append (has_channel s c) (writes_within s n) _ ∙ rw (is, append-nil) refl
-
-  -- what is in the list after some events is in it after more
-  later_more : (c n k m : ℕ) (d : E) → slice_get (writes_on s c n) k ≡ Some d → slice_get (writes_on s c (m + n)) k ≡ Some d
-  later_more c n k zero d h = rw zero-add h
-  later_more c n k (suc m) d h =
-      let joined = filter-append (has_channel s c) (writes_within s (m + n)) (flat_map (s.machine.writes (world_at s (m + n)).state) (option_list (event_at s (m + n)))) in
-      rw (suc-add, joined) (place_more _ _ k d (later_more c n k m d h))
-
-  -- at one place stands one write
-  pub one_write : (c k : ℕ) (d e : E) → IsWrite s c k d → IsWrite s c k e → d ≡ e
-  one_write c k d e first second =
-      let one = later_more c first.within k second.within d first.is in
-      let two = later_more c second.within k first.within e second.is in
-      let same : second.within + first.within ≡ first.within + second.within = omega arith in
-      let both : Some d ≡ Some e = sym one ∙ (ap (λ n. slice_get (writes_on s c n) k) same ∙ two) in
-      cc
-
-  pub write_channel : (c k : ℕ) (d : E) → IsWrite s c k d → channel_of s d ≡ c
-  write_channel c k d is = eqb-true (channel_of s d) c (filter_among (has_channel s c) d (writes_within s is.within) (place_among _ k d is.is)).passes
 
   made_more : (c n k : ℕ) → made s c n ≤ made s c (k + n)
   made_more c n zero = rw zero-add (omega arith)
@@ -132,49 +114,24 @@ module _ {X E : Type 0} (s : Scene X E) where
 
   -- ---- stretches
 
-  pub stretch_length : (c first end : ℕ) (ds : List E) → IsStretch s c first ds end → end ≡ first + length ds
-  stretch_length c first end [] h = omega (arith, h)
-  stretch_length c first end (d ∷ ds) h = omega (arith, stretch_length c (suc first) end ds h.1)
-
-  pub stretch_at : (c first end : ℕ) (ds : List E) → IsStretch s c first ds end → (j : ℕ) (d : E) → slice_get ds j ≡ Some d → IsWrite s c (first + j) d
-  stretch_at c first end [] h j d at = absurd (cc)
-  stretch_at c first end (x ∷ ds) h zero d at =
-      let same : x ≡ d = cc in
-      let place : first ≡ first + 0 = omega arith in
-      subst (λ n. IsWrite s c n d) place (subst (λ y. IsWrite s c first y) same h.0)
-  stretch_at c first end (x ∷ ds) h (suc j) d at =
-      let place : suc first + j ≡ first + suc j = omega arith in
-      subst (λ n. IsWrite s c n d) place (stretch_at c (suc first) end ds h.1 j d at)
-
-  pub stretch_of : (c first : ℕ) (ds : List E) (end : ℕ) → end ≡ first + length ds → ((j : ℕ) (d : E) → slice_get ds j ≡ Some d → IsWrite s c (first + j) d) → IsStretch s c first ds end
-  stretch_of c first [] end long h = omega arith
-  stretch_of c first (x ∷ ds) end long h = (
-    (let place : first + 0 ≡ first = omega arith in subst (λ n. IsWrite s c n x) place (h 0 x refl)),
-    stretch_of c (suc first) ds end (omega arith) (λ j d at. let place : first + suc j ≡ suc first + j = omega arith in subst (λ n. IsWrite s c n d) place (h (suc j) d at)),
-  )
-
-  pub stretch_joined : (c first between end : ℕ) (xs ys : List E) → IsStretch s c first xs between → IsStretch s c between ys end → IsStretch s c first (xs ++ ys) end
-  stretch_joined c first between end [] ys a b = subst (λ n. IsStretch s c n ys end) (sym a) b
-  stretch_joined c first between end (x ∷ xs) ys a b = (a.0, stretch_joined c (suc first) between end xs ys a.1 b)
-
   -- the writes of one event on a channel
   pub row : (c k : ℕ) (e : E) → event_at s k ≡ Some e → IsStretch s c (made s c k) (filter (has_channel s c) (s.machine.writes (world_at s k).state e)) (made s c (suc k))
-  row c k e is = stretch_of c (made s c k) _ (made s c (suc k)) (made_event c k e is) (λ j d at. index_write c k j e d is at)
+  row c k e is = stretch_of s c (made s c k) _ (made s c (suc k)) (made_event c k e is) (λ j d at. index_write c k j e d is at)
 
   -- what is among a stretch has a place in it
   pub stretch_among : (c first end : ℕ) (ds : List E) (d : E) → IsStretch s c first ds end → Among d ds → (p : ℕ) × IsWrite s c p d × (first ≤ p) × (p < end)
   stretch_among c first end ds d is a =
       let found = among_place d ds a in
-      (first + found.0, stretch_at c first end ds is found.0 d found.1, omega arith, omega (arith, stretch_length c first end ds is, within_of ds found.0 d found.1))
+      (first + found.0, stretch_at s c first end ds is found.0 d found.1, omega arith, omega (arith, stretch_length s c first end ds is, within_of ds found.0 d found.1))
 
   -- and each place in it is among the stretch
   pub among_stretch : (c first end : ℕ) (ds : List E) (p : ℕ) (d : E) → IsStretch s c first ds end → IsWrite s c p d → first ≤ p → p < end → Among d ds
   among_stretch c first end ds p d is write from below =
       let rest = difference first p from in
-      let there = place_of ds rest.0 (omega (arith, rest.1, stretch_length c first end ds is)) in
+      let there = place_of ds rest.0 (omega (arith, rest.1, stretch_length s c first end ds is)) in
       let sum : first + rest.0 ≡ p = omega (arith, rest.1) in
-      let held : IsWrite s c p there.0 = subst (λ k. IsWrite s c k there.0) sum (stretch_at c first end ds is rest.0 there.0 there.1) in
-      place_among ds rest.0 d (there.1 ∙ ap (λ z. Some z) (one_write c p there.0 d held write))
+      let held : IsWrite s c p there.0 = subst (λ k. IsWrite s c k there.0) sum (stretch_at s c first end ds is rest.0 there.0 there.1) in
+      place_among ds rest.0 d (there.1 ∙ ap (λ z. Some z) (one_write s c p there.0 d held write))
 
   -- ---- a run that is shared out
 

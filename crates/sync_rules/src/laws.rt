@@ -6,7 +6,7 @@ ghost use Rattle.event_order.specs.Order.{IsBefore};
 ghost use Rattle.event_order.specs.Pending.{Among};
 ghost use Rattle.event_order.specs.Laws.{IsLocal};
 ghost use Rattle.ssf_model.specs.Scene.{Scene, world_at, event_at, time_of, channel_of};
-ghost use Rattle.ssf_model.specs.Truth.{is_on_line, line_entries, IsWrite, IsPromise, IsTrueParcel, IsCut, IsLeastFrom, IsWindow, IsNext};
+ghost use Rattle.ssf_model.specs.Truth.{is_on_line, line_entries, IsWrite, IsPromise, IsTrueParcel, IsCut, IsLeastFrom, IsWindow, IsNext, HasReached};
 ghost use Rattle.sync_rules.specs.Parts.{Line, MailOf, BarrierOf, CoreOf};
 ghost use Rattle.sync_rules.specs.Bounds.{IsInto, IsOutOf, bound_of, low_of, promise_of, least_ahead_of, safe_bound};
 ghost use Rattle.sync_rules.specs.Shared.{IsShared, IsWrittenBy};
@@ -175,11 +175,10 @@ pub fn steps_leave_less<X, E>()
         → IsLess n m → packed windows events promises parcels n < packed windows events promises parcels m }
 {}
 
-/// All events of the run before the safe bound are executed (`safe`), and where the barrier has ended
+/// Each timeline has reached the safe bound (`safe`), and where the barrier has ended
 /// all events of the run are (`ended`).
 pub fn safe_bounds_hold<X, E>()
-    ensures safe { (s : Scene X E) → IsShared s → (v : ℕ) (t : CoreOf E) → IsSoundCore s v t
-        → (j : ℕ) (e : E) → event_at s j ≡ Some e → time_of s e < safe_bound s t.lines → j < (t.lines (s.line e)).moment }
+    ensures safe { (s : Scene X E) → IsShared s → (v : ℕ) (t : CoreOf E) → IsSoundCore s v t → HasReached s (safe_bound s t.lines) (λ i. (t.lines i).moment) }
     ensures ended { (s : Scene X E) → IsShared s → (v : ℕ) (t : CoreOf E) → IsSoundCore s v t → t.barrier.ended ≡ true
         → (j : ℕ) (e : E) → event_at s j ≡ Some e → j < (t.lines (s.line e)).moment }
 {}
