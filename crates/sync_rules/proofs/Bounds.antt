@@ -1,6 +1,5 @@
 -- Bounds and lower bounds of timelines, and what a sound timeline has executed below them.
-use Rattle.std.proofs.Common.{◌≡◌, ℕ, zero, suc, ◌+◌, ◌<◌, ◌≤◌, ◌⊎◌, Bool, true, false, cond, min, nat_eq, ◌&&◌, List, [], ◌∷◌, Some, refl, sym, ap, ◌∙◌, subst, inl, inr, arith, eqb-true, eq-eqb}
-use Rattle.std.specs.List.{filter}
+use Rattle.std.proofs.Common.{◌≡◌, ℕ, zero, suc, ◌+◌, ◌<◌, ◌≤◌, ◌⊎◌, Bool, true, false, min, nat_eq, ◌&&◌, List, ◌∷◌, Some, refl, sym, ap, ◌∙◌, subst, inl, inr, arith, eqb-true, eq-eqb}
 use Rattle.event_order.specs.Pending.{Among}
 use Rattle.event_order.proofs.Pending.{test_cases}
 use Rattle.event_order.proofs.Steps.{lt_or_ge, lt_or_same}
@@ -8,7 +7,7 @@ use Rattle.ssf_model.specs.Scene.{Scene, Net, event_at, time_of, channel_of}
 use Rattle.ssf_model.specs.Truth.{is_on_line, IsNext, IsPromised, IsStanding}
 use Rattle.ssf_model.proofs.Lists.{different}
 use Rattle.sync_rules.specs.Parts.{Line, put_at}
-use Rattle.sync_rules.specs.Bounds.{IsInto, IsOutOf, comes_appointed, goes_out, least_held, bound_of, head_time, low_of, least_low, safe_bound}
+use Rattle.sync_rules.specs.Bounds.{IsInto, IsOutOf, comes_appointed, goes_out, least_held, bound_of, low_of, least_low, safe_bound}
 use Rattle.sync_rules.specs.Shared.{IsShared}
 use Rattle.sync_rules.specs.Sound.{HasCome, IsSoundLine, HasDone}
 use Rattle.sync_rules.proofs.Writes.{placed, kept_by}

@@ -1,23 +1,22 @@
 -- Each step keeps all parts sound together.
-use Rattle.std.proofs.Common.{◌≡◌, ℕ, zero, suc, ◌+◌, ◌<◌, ◌≤◌, ◌⊎◌, Bool, true, false, cond, nat_eq, List, [], ◌∷◌, Some, refl, sym, ap, ◌∙◌, subst, inl, inr, arith, eqb-true}
+use Rattle.std.proofs.Common.{◌≡◌, ℕ, ◌+◌, ◌<◌, ◌≤◌, true, false, nat_eq, Some, refl, sym, ap, ◌∙◌, subst, inl, inr, arith, eqb-true}
 use Rattle.event_order.proofs.Pending.{test_cases}
 use Rattle.event_order.proofs.Steps.{lt_or_ge}
-use Rattle.ssf_model.specs.Scene.{Scene, world_at, event_at, time_of}
-use Rattle.ssf_model.specs.Truth.{is_on_line, IsTrueParcel, IsNext}
-use Rattle.ssf_model.proofs.Lists.{different}
+use Rattle.ssf_model.specs.Scene.{Scene, world_at, event_at}
+use Rattle.ssf_model.specs.Truth.{IsTrueParcel, IsNext}
 use Rattle.sync_rules.specs.Parts.{Line, MailOf, BarrierOf, CoreOf, put_at}
 use Rattle.sync_rules.specs.Bounds.{IsInto, IsOutOf}
 use Rattle.sync_rules.specs.Shared.{IsShared}
-use Rattle.sync_rules.specs.Sound.{HasDone, IsCounted, IsSoundLine, IsSoundMail, IsSoundBarrier, IsSoundCore}
-use Rattle.sync_rules.specs.Steps.{CanExecute, CanPost, CanTake, CanEnter, CanReport, CanCross, IsCrossing, IsStep, executed_line, posted_line, posted_mail, taken_line, taken_mail, entered_line, ended_barrier, least_report, with_line, with_mail, with_barrier, executed_core, posted_core, taken_core, entered_core, reported_core}
+use Rattle.sync_rules.specs.Sound.{HasDone, IsSoundLine, IsSoundMail, IsSoundCore}
+use Rattle.sync_rules.specs.Steps.{CanExecute, CanEnter, CanReport, CanCross, IsCrossing, IsStep, executed_line, posted_line, posted_mail, taken_line, taken_mail, entered_line, least_report, with_line, with_mail, with_barrier, executed_core, posted_core, taken_core, entered_core, reported_core}
 use Rattle.sync_rules.specs.Steps.IsStep.{executes, posts, takes, enters, reports, crosses}
 use Rattle.sync_rules.proofs.Runs.{one_number}
-use Rattle.sync_rules.proofs.Windows.{window_not_before, next_later}
+use Rattle.sync_rules.proofs.Windows.{window_not_before}
 use Rattle.sync_rules.proofs.Bounds.{put_here, put_else, put_each, low_done}
-use Rattle.sync_rules.proofs.Executes.{executed_is_sound, executed_is_counted, next_of}
+use Rattle.sync_rules.proofs.Executes.{executed_is_sound, next_of}
 use Rattle.sync_rules.proofs.Posts.{posted_is_sound, posted_mail_is_sound, taken_is_sound, taken_mail_is_sound}
 use Rattle.sync_rules.proofs.Enters.{enters_soundly}
-use Rattle.sync_rules.proofs.Reports.{report_keeps, next_is_sound, ended_is_sound, cross_least}
+use Rattle.sync_rules.proofs.Reports.{report_keeps, next_is_sound, ended_is_sound}
 
 module _ {X E : Type 0} (s : Scene X E) where
   pub done_more : (i v : ℕ) (l m : Line E) → l.moment ≤ m.moment → HasDone s i v l → HasDone s i v m

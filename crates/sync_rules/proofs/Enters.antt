@@ -1,16 +1,16 @@
 -- A timeline that enters a window stays sound.
-use Rattle.std.proofs.Common.{◌≡◌, ℕ, zero, suc, ◌+◌, ◌<◌, ◌≤◌, ◌⊎◌, Bool, true, false, List, [], ◌∷◌, Some, refl, sym, ap, ◌∙◌, subst, inl, inr, arith}
+use Rattle.std.proofs.Common.{◌≡◌, ℕ, ◌<◌, ◌≤◌, true, false, refl, ap, ◌∙◌, inl, inr, arith}
 use Rattle.event_order.proofs.Steps.{lt_or_ge}
-use Rattle.ssf_model.specs.Scene.{Scene, event_at, time_of, channel_of}
-use Rattle.ssf_model.specs.Truth.{is_on_line, IsPromise, IsCut, IsWindow}
+use Rattle.ssf_model.specs.Scene.{Scene}
+use Rattle.ssf_model.specs.Truth.{IsPromise, IsCut, IsWindow}
 use Rattle.sync_rules.specs.Parts.{Line, BarrierOf}
-use Rattle.sync_rules.specs.Bounds.{IsInto, IsOutOf, bound_of}
+use Rattle.sync_rules.specs.Bounds.{IsInto, bound_of}
 use Rattle.sync_rules.specs.Shared.{IsShared}
-use Rattle.sync_rules.specs.Sound.{made, IsSentFrom, IsSoundLine, IsSoundBarrier, HasDone}
+use Rattle.sync_rules.specs.Sound.{made, IsSoundLine, IsSoundBarrier, HasDone}
 use Rattle.sync_rules.specs.Steps.{CanEnter, entered_line}
 use Rattle.sync_rules.proofs.Writes.{origin, placed_before, kept_by}
 use Rattle.sync_rules.proofs.Windows.{window_below, written_before}
-use Rattle.sync_rules.proofs.Bounds.{line_is, is_line, bound_entered, bound_rises}
+use Rattle.sync_rules.proofs.Bounds.{is_line, bound_entered, bound_rises}
 
 module _ {X E : Type 0} (s : Scene X E) (sh : IsShared s) (i : ℕ) (l : Line E) (sound : IsSoundLine s i l) where
   -- what was taken of a windowed channel holds all that comes before the window x, where all that was written before the

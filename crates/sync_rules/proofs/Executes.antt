@@ -1,5 +1,5 @@
 -- A timeline that executes its first pending event stays sound.
-use Rattle.std.proofs.Common.{◌≡◌, ℕ, zero, suc, ◌+◌, ◌<◌, ◌≤◌, ◌⊎◌, Bool, true, false, cond, min, nat_eq, nat_le, ◌&&◌, List, [], ◌∷◌, ◌++◌, length, Some, refl, sym, ap, ◌∙◌, subst, inl, inr, arith}
+use Rattle.std.proofs.Common.{◌≡◌, ℕ, suc, ◌+◌, ◌<◌, ◌≤◌, ◌⊎◌, Bool, true, false, min, nat_le, ◌&&◌, List, [], ◌∷◌, ◌++◌, length, Some, refl, sym, ap, ◌∙◌, subst, inl, inr, arith}
 use Rattle.std.specs.List.{filter}
 use Rattle.std.proofs.lemmas.Grind.{common_steps}
 use Rattle.event_order.specs.Pending.{Among}
@@ -8,17 +8,17 @@ use Rattle.event_order.proofs.Steps.{lt_or_ge, lt_or_same, le_test}
 use Rattle.event_order.proofs.Local.{share_next}
 use Rattle.event_order.proofs.Shares.{one_more}
 use Rattle.ssf_model.specs.Scene.{Scene, world_at, event_at, time_of, channel_of}
-use Rattle.ssf_model.specs.Truth.{is_on_line, has_channel, line_events, IsStretch, IsNext, IsKeptWrite, IsStanding}
+use Rattle.ssf_model.specs.Truth.{is_on_line, has_channel, line_events, IsStretch, IsNext, IsStanding}
 use Rattle.sync_rules.specs.Parts.{Line}
-use Rattle.sync_rules.specs.Bounds.{IsOutOf, goes_out, bound_of}
-use Rattle.sync_rules.specs.Shared.{IsShared, IsWrittenBy}
+use Rattle.sync_rules.specs.Bounds.{IsOutOf, bound_of}
+use Rattle.sync_rules.specs.Shared.{IsShared}
 use Rattle.sync_rules.specs.Sound.{made, HasCome, IsSentFrom, IsSoundLine, IsCounted}
 use Rattle.sync_rules.specs.Steps.{CanExecute, leaves, least_arrival, executed_line}
 use Rattle.sync_rules.proofs.Runs.{one_event}
 use Rattle.ssf_model.proofs.Places.{stretch_joined}
 use Rattle.sync_rules.proofs.Writes.{made_up, made_event, made_le, row, kept_by}
 use Rattle.sync_rules.proofs.Standing.{stands_after}
-use Rattle.sync_rules.proofs.Bounds.{goes, out_of, line_is, is_line, head_next}
+use Rattle.sync_rules.proofs.Bounds.{goes, line_is, is_line, head_next}
 
 le_is : (a b : ℕ) → nat_le a b ≡ true → a ≤ b
 le_is a b h = grind (arith, common_steps)

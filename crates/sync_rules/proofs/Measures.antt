@@ -1,17 +1,17 @@
 -- Each step leaves less to do.
-use Rattle.std.proofs.Common.{◌≡◌, ℕ, zero, suc, ◌+◌, ◌-◌, ◌*◌, ◌<◌, ◌≤◌, ◌⊎◌, Bool, true, false, cond, min, max, nat_eq, nat_lt, List, [], ◌∷◌, ◌++◌, length, Some, refl, sym, ap, ◌∙◌, subst, inl, inr, arith, length-append, eqb-true, eq-eqb}
+use Rattle.std.proofs.Common.{◌≡◌, ℕ, zero, suc, ◌+◌, ◌-◌, ◌*◌, ◌<◌, ◌≤◌, true, false, max, nat_eq, nat_lt, List, [], ◌++◌, length, refl, sym, ap, ◌∙◌, subst, inl, inr, arith, length-append, eqb-true, eq-eqb}
 use Rattle.std.proofs.Math.Nat.{mul-le-mul_right}
 use native.Mathlib.Nat.{suc-mul}
 use Rattle.std.proofs.lemmas.Grind.{common_steps}
 use Rattle.event_order.proofs.Pending.{test_cases}
 use Rattle.event_order.proofs.Steps.{lt_or_ge, lt_or_same}
-use Rattle.ssf_model.specs.Scene.{Scene, time_of}
+use Rattle.ssf_model.specs.Scene.{Scene}
 use Rattle.ssf_model.specs.Truth.{IsWindow}
 use Rattle.sync_rules.specs.Parts.{Line, MailOf, BarrierOf, CoreOf, put_at}
 use Rattle.sync_rules.specs.Bounds.{promise_of}
 use Rattle.sync_rules.specs.Shared.{IsShared}
 use Rattle.sync_rules.specs.Sound.{IsSoundCore}
-use Rattle.sync_rules.specs.Steps.{CanExecute, CanPost, CanTake, CanEnter, CanReport, CanCross, IsCrossing, IsStep, executed_line, posted_line, posted_mail, taken_line, taken_mail, entered_line, reported_barrier, ended_barrier, least_report, with_line, with_mail, with_barrier, posted_core, taken_core, entered_core, reported_core}
+use Rattle.sync_rules.specs.Steps.{CanPost, CanTake, CanCross, IsCrossing, IsStep, executed_line, posted_line, posted_mail, taken_line, taken_mail, entered_line, reported_barrier, least_report, with_line, with_mail, with_barrier, posted_core, taken_core, entered_core, reported_core}
 use Rattle.sync_rules.specs.Steps.IsStep.{executes, posts, takes, enters, reports, crosses}
 use Rattle.sync_rules.specs.Measure.{Left, IsLess, sum_below, time_left, window_left, promise_left, parcel_left, at_cross, left_of, packed}
 use Rattle.sync_rules.specs.Measure.IsLess.{in_time, in_windows, in_events, in_promises, in_parcels}

@@ -1,23 +1,20 @@
 -- What a timeline posts is true, and what it takes comes in time.
-use Rattle.std.proofs.Common.{◌≡◌, ℕ, zero, suc, ◌+◌, ◌<◌, ◌≤◌, ◌⊎◌, Bool, true, false, cond, min, max, nat_eq, List, [], ◌∷◌, ◌++◌, length, Some, refl, sym, ap, ◌∙◌, subst, inl, inr, arith, eqb-true, eq-eqb}
-use Rattle.std.specs.List.{filter}
+use Rattle.std.proofs.Common.{◌≡◌, ℕ, suc, ◌+◌, ◌<◌, ◌≤◌, true, min, max, nat_eq, List, [], ◌∷◌, ◌++◌, refl, sym, ap, ◌∙◌, subst, inl, inr, arith, eqb-true}
 use Rattle.event_order.specs.Pending.{Among, IsApart}
-use Rattle.event_order.specs.Run.{Arises}
 use Rattle.event_order.proofs.Pending.{test_cases}
-use Rattle.event_order.proofs.Steps.{lt_or_ge, lt_or_same}
-use Rattle.ssf_model.specs.Scene.{Scene, event_at, time_of, channel_of}
-use Rattle.ssf_model.specs.Truth.{is_on_line, IsWrite, IsStretch, IsPromise, IsTrueParcel, IsKeptWrite, IsStanding, WasExecuted}
-use Rattle.ssf_model.proofs.Lists.{different}
+use Rattle.event_order.proofs.Steps.{lt_or_ge}
+use Rattle.ssf_model.specs.Scene.{Scene, time_of, channel_of}
+use Rattle.ssf_model.specs.Truth.{is_on_line, IsWrite, IsStretch, IsPromise, IsTrueParcel, IsKeptWrite}
 use Rattle.sync_rules.specs.Parts.{Line, MailOf, put_at}
 use Rattle.sync_rules.specs.Bounds.{IsInto, IsOutOf, bound_of, low_of, promise_of}
-use Rattle.sync_rules.specs.Shared.{IsShared, IsWrittenBy}
-use Rattle.sync_rules.specs.Sound.{made, HasCome, IsSoundLine, IsSoundMail}
+use Rattle.sync_rules.specs.Shared.{IsShared}
+use Rattle.sync_rules.specs.Sound.{HasCome, IsSoundLine, IsSoundMail}
 use Rattle.sync_rules.specs.Steps.{posted_line, posted_mail, taken_line, taken_mail}
 use Rattle.sync_rules.proofs.Runs.{one_key}
 use Rattle.ssf_model.proofs.Places.{stretch_length, stretch_joined}
-use Rattle.sync_rules.proofs.Writes.{IsPlaced, origin, one_place, place_of_write, made_up, stretch_among, among_stretch, kept_cross}
+use Rattle.sync_rules.proofs.Writes.{origin, one_place, made_up, stretch_among, among_stretch, kept_cross}
 use Rattle.sync_rules.proofs.Standing.{IsArrival, stands_taken}
-use Rattle.sync_rules.proofs.Bounds.{put_here, put_else, put_each, true_or_not, line_is, is_line, bound_held, bound_entered, bound_rises, not_early}
+use Rattle.sync_rules.proofs.Bounds.{put_here, put_each, true_or_not, line_is, is_line, bound_held, bound_entered, bound_rises, not_early}
 
 -- ---- parcels
 

@@ -1,22 +1,22 @@
 -- The report of a sound timeline is true, and a barrier that crosses by true reports stays sound.
-use Rattle.std.proofs.Common.{◌≡◌, ℕ, zero, suc, ◌+◌, ◌<◌, ◌≤◌, ◌⊎◌, Bool, true, false, cond, min, nat_eq, List, [], ◌∷◌, Some, refl, sym, ap, ◌∙◌, subst, inl, inr, arith, eqb-true}
+use Rattle.std.proofs.Common.{◌≡◌, ℕ, zero, suc, ◌+◌, ◌<◌, ◌≤◌, ◌⊎◌, true, false, nat_eq, Some, refl, sym, ap, ◌∙◌, subst, inl, inr, arith, eqb-true}
 use Rattle.event_order.specs.Pending.{Among}
 use Rattle.event_order.specs.Run.{Arises}
 use Rattle.event_order.proofs.Pending.{test_cases}
 use Rattle.event_order.proofs.Steps.{lt_or_ge, lt_or_same}
 use Rattle.ssf_model.specs.Scene.{Scene, event_at, time_of, channel_of}
-use Rattle.ssf_model.specs.Truth.{is_on_line, IsCut, IsLeastFrom, IsWindow, IsKeptWrite, WasExecuted, next_window}
+use Rattle.ssf_model.specs.Truth.{is_on_line, IsLeastFrom, IsWindow, IsKeptWrite, WasExecuted}
 use Rattle.ssf_model.proofs.Lists.{different}
-use Rattle.sync_rules.specs.Parts.{Line, BarrierOf, put_at}
-use Rattle.sync_rules.specs.Bounds.{IsInto, IsOutOf, goes_out, bound_of, head_time, low_of, least_ahead_of}
+use Rattle.sync_rules.specs.Parts.{Line, BarrierOf}
+use Rattle.sync_rules.specs.Bounds.{IsInto, IsOutOf, goes_out, head_time, low_of, least_ahead_of}
 use Rattle.sync_rules.specs.Shared.{IsShared}
-use Rattle.sync_rules.specs.Sound.{made, HasCome, IsSentFrom, IsSoundLine, IsReport, IsSoundBarrier}
-use Rattle.sync_rules.specs.Steps.{CanReport, CanCross, IsCrossing, IsNextRound, reported_barrier, least_report, ended_barrier, next_barrier}
-use Rattle.sync_rules.proofs.Runs.{times, in_time, arises_by, event_arisen, arisen}
+use Rattle.sync_rules.specs.Sound.{HasCome, IsSentFrom, IsSoundLine, IsReport, IsSoundBarrier}
+use Rattle.sync_rules.specs.Steps.{CanReport, IsNextRound, reported_barrier, least_report, ended_barrier}
+use Rattle.sync_rules.proofs.Runs.{times, in_time, arises_by, arisen}
 use Rattle.sync_rules.proofs.Writes.{placed, placed_before, made_le, kept_by}
-use Rattle.sync_rules.proofs.Standing.{HasHead, head_cases, head_least}
+use Rattle.sync_rules.proofs.Standing.{head_cases, head_least}
 use Rattle.sync_rules.proofs.Windows.{cut_at, window_before, window_not_before}
-use Rattle.sync_rules.proofs.Bounds.{true_or_not, put_here, put_else, out_of, goes, line_is, is_line, bound_entered, low_done, low_pending}
+use Rattle.sync_rules.proofs.Bounds.{true_or_not, out_of, goes, line_is, is_line, bound_entered, low_done, low_pending}
 
 -- ---- report
 

@@ -1,6 +1,5 @@
 -- Two worked runs by the six steps, computed from the definitions: bounds, promises, windows and least times ahead.
-use Rattle.std.proofs.Common.{◌≡◌, ℕ, zero, suc, Bool, true, false, nat_eq, List, [], ◌∷◌, map, cond, nat_le, refl, Option, Some, None}
-use Rattle.event_order.specs.declared.key.Key.{Key}
+use Rattle.std.proofs.Common.{◌≡◌, ℕ, Bool, true, false, nat_eq, List, [], ◌∷◌, map, cond, nat_le, refl, Some, None}
 use Rattle.event_order.specs.Order.{comes_before}
 use Rattle.event_order.specs.Machine.{all_kept}
 use Rattle.ssf_model.specs.declared.wait.Wait.TheVariants.{On}
@@ -12,12 +11,11 @@ use Rattle.ssf_model.specs.declared.plan.Plan.{Plan}
 use Rattle.ssf_model.specs.Reaction.{Reaction}
 use Rattle.ssf_model.specs.Drafts.{empty_draft, with_entity, with_in_channel, with_out_channel, with_mapping, planned}
 use Rattle.ssf_model.specs.Run.{States, machine_of}
-use Rattle.ssf_model.specs.Scene.{Net, Scene, scene_of, world_at}
-use Rattle.ssf_model.specs.Truth.{window_at}
+use Rattle.ssf_model.specs.Scene.{Scene, scene_of, world_at}
 use Rattle.ssf_model.proofs.Worked.{key}
 use Rattle.sync_rules.specs.Parts.{Line, MailOf, BarrierOf}
-use Rattle.sync_rules.specs.Bounds.{bound_of, low_of, promise_of, least_ahead_of, safe_bound}
-use Rattle.sync_rules.specs.Steps.{first_line, first_mail, first_barrier, executed_line, posted_line, posted_mail, taken_line, taken_mail, entered_line, reported_barrier, least_report, next_barrier}
+use Rattle.sync_rules.specs.Bounds.{bound_of, low_of, promise_of, least_ahead_of}
+use Rattle.sync_rules.specs.Steps.{first_line, first_mail, first_barrier, executed_line, posted_mail, taken_line, entered_line, reported_barrier, least_report, next_barrier}
 
 -- a node whose state is the number of its in-channel and out-channel, and whether it has a token: it writes its token at
 -- the start, and passes on each that comes

@@ -1,13 +1,11 @@
 -- The history and the state of a timeline that executes its next event.
-use Rattle.std.proofs.Common.{◌≡◌, ℕ, zero, suc, ◌+◌, ◌<◌, ◌≤◌, ◌⊎◌, Bool, true, false, cond, List, [], ◌∷◌, ◌++◌, Some, None, refl, sym, ap, ◌∙◌, subst, inl, inr, arith, zero-add, suc-add, append-nil}
-use Rattle.std.specs.List.{flat_map}
+use Rattle.std.proofs.Common.{◌≡◌, ℕ, zero, suc, ◌+◌, true, false, [], ◌∷◌, ◌++◌, Some, None, refl, sym, ap, ◌∙◌, subst, inl, inr, arith, zero-add, suc-add, append-nil}
 use Rattle.event_order.specs.Run.{NoneBetween}
 use Rattle.event_order.specs.Laws.{IsLocal}
 use Rattle.event_order.proofs.Local.{unmoved}
 use Rattle.event_order.proofs.Steps.{state_after}
-use Rattle.ssf_model.specs.declared.event.Entry.{Entry}
 use Rattle.ssf_model.specs.Scene.{Scene, world_at, event_at}
-use Rattle.ssf_model.specs.Truth.{is_on_line, line_entries, entries_that, IsNext}
+use Rattle.ssf_model.specs.Truth.{is_on_line, line_entries, IsNext}
 use Rattle.sync_rules.proofs.Runs.{some_or_none}
 
 module _ {X E : Type 0} (s : Scene X E) (i : ℕ) where

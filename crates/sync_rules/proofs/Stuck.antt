@@ -1,14 +1,14 @@
 -- Where the barrier has not ended, some step is enabled, or the budget ends.
-use Rattle.std.proofs.Common.{◌≡◌, ℕ, zero, suc, ◌+◌, ◌<◌, ◌≤◌, ◌⊎◌, Bool, true, false, cond, min, max, nat_eq, List, [], ◌∷◌, length, Some, refl, sym, ap, ◌∙◌, subst, inl, inr, arith}
+use Rattle.std.proofs.Common.{◌≡◌, ℕ, zero, suc, ◌+◌, ◌<◌, ◌≤◌, ◌⊎◌, true, false, length, refl, sym, ap, ◌∙◌, subst, inl, inr, arith}
 use Rattle.event_order.proofs.Pending.{test_cases}
 use Rattle.event_order.proofs.Steps.{lt_or_ge, lt_or_same}
-use Rattle.ssf_model.specs.Scene.{Scene, world_at, event_at, time_of}
-use Rattle.ssf_model.specs.Truth.{is_on_line, IsNext, next_window}
-use Rattle.sync_rules.specs.Parts.{Line, MailOf, BarrierOf, CoreOf}
-use Rattle.sync_rules.specs.Bounds.{IsInto, IsOutOf, bound_of, low_of, promise_of}
+use Rattle.ssf_model.specs.Scene.{Scene, world_at, time_of}
+use Rattle.ssf_model.specs.Truth.{IsNext}
+use Rattle.sync_rules.specs.Parts.{BarrierOf, CoreOf}
+use Rattle.sync_rules.specs.Bounds.{bound_of, low_of, promise_of}
 use Rattle.sync_rules.specs.Shared.{IsShared}
-use Rattle.sync_rules.specs.Sound.{made, HasDone, IsSoundLine, IsSoundMail, IsSoundBarrier, IsSoundCore}
-use Rattle.sync_rules.specs.Steps.{CanExecute, CanPost, CanTake, CanEnter, CanReport, CanCross, IsNextRound, IsCrossing, IsStep, IsOver, BudgetEndsAt, least_report, next_barrier, ended_barrier, with_barrier, executed_core, posted_core, taken_core, entered_core, reported_core}
+use Rattle.sync_rules.specs.Sound.{IsSoundCore}
+use Rattle.sync_rules.specs.Steps.{CanExecute, IsCrossing, IsStep, BudgetEndsAt, least_report, next_barrier, ended_barrier, with_barrier, executed_core, posted_core, taken_core, entered_core, reported_core}
 use Rattle.sync_rules.specs.Steps.IsStep.{executes, posts, takes, enters, reports, crosses}
 use Rattle.ssf_model.proofs.Places.{stretch_length}
 use Rattle.sync_rules.proofs.Writes.{made_le}

@@ -1,27 +1,27 @@
 -- What sound parts tell of the run: where they begin, how far all of them are, and where they end.
-use Rattle.std.proofs.Common.{◌≡◌, ℕ, zero, suc, ◌+◌, ◌<◌, ◌≤◌, ◌⊎◌, Bool, true, false, cond, min, max, nat_eq, List, [], ◌∷◌, ◌++◌, length, Some, refl, sym, ap, ◌∙◌, subst, inl, inr, arith, zero-add, suc-add, length-append, eqb-true}
+use Rattle.std.proofs.Common.{◌≡◌, ℕ, zero, suc, ◌+◌, ◌<◌, ◌≤◌, Bool, true, List, ◌∷◌, ◌++◌, length, Some, refl, sym, ap, ◌∙◌, subst, inl, inr, arith, zero-add, suc-add, length-append, eqb-true}
 use Rattle.std.specs.List.{filter}
 use Rattle.std.proofs.lemmas.List.Elements.{filter-append}
 use Rattle.event_order.specs.Machine.{first_events, option_list}
 use Rattle.event_order.specs.Order.{IsBefore}
 use Rattle.event_order.specs.Pending.{Among}
 use Rattle.event_order.proofs.Order.{before_time, earlier}
-use Rattle.event_order.proofs.Pending.{test_cases, put_all_among, filter_among}
+use Rattle.event_order.proofs.Pending.{put_all_among, filter_among}
 use Rattle.event_order.proofs.Steps.{lt_or_ge, difference}
 use Rattle.event_order.proofs.Local.{share_own, share_same}
 use Rattle.event_order.proofs.Shares.{one_more}
 use Rattle.ssf_model.specs.Scene.{Scene, world_at, event_at, time_of}
 use Rattle.ssf_model.specs.Truth.{is_on_line, line_events, IsTrueParcel, IsNext}
-use Rattle.sync_rules.specs.Parts.{Line, MailOf, BarrierOf, CoreOf, put_at}
-use Rattle.sync_rules.specs.Bounds.{IsInto, bound_of, low_of, head_time, safe_bound}
+use Rattle.sync_rules.specs.Parts.{Line, MailOf, CoreOf, put_at}
+use Rattle.sync_rules.specs.Bounds.{IsInto, low_of, safe_bound}
 use Rattle.sync_rules.specs.Shared.{IsShared}
-use Rattle.sync_rules.specs.Sound.{HasCome, HasDone, IsCounted, IsSoundLine, IsSoundMail, IsSoundBarrier, IsSoundCore, IsOwnEvent}
-use Rattle.sync_rules.specs.Steps.{CanExecute, CanEnter, IsStep, IsOver, BudgetEndsAt, stays, first_line, first_core, executed_line, posted_line, taken_line, entered_line, with_barrier}
+use Rattle.sync_rules.specs.Sound.{HasCome, IsCounted, IsSoundLine, IsSoundCore, IsOwnEvent}
+use Rattle.sync_rules.specs.Steps.{IsStep, BudgetEndsAt, stays, first_line, first_core, executed_line, posted_line, taken_line, entered_line}
 use Rattle.sync_rules.specs.Steps.IsStep.{executes, posts, takes, enters, reports, crosses}
 use Rattle.sync_rules.proofs.Runs.{one_number}
-use Rattle.sync_rules.proofs.Standing.{stands_first, HasHead}
+use Rattle.sync_rules.proofs.Standing.{stands_first}
 use Rattle.sync_rules.proofs.Windows.{window_most}
-use Rattle.sync_rules.proofs.Bounds.{put_here, put_each, bound_entered, low_bound, low_pending, low_above, low_done, not_early, head_next, bound_rises, is_line, safe_below, safe_above, safe_most}
+use Rattle.sync_rules.proofs.Bounds.{put_each, bound_entered, low_bound, low_pending, low_above, low_done, not_early, head_next, bound_rises, is_line, safe_below, safe_above, safe_most}
 use Rattle.sync_rules.proofs.Executes.{next_of, executed_is_counted}
 use Rattle.sync_rules.proofs.Posts.{none_late, taken_bound}
 

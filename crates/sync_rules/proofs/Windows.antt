@@ -1,8 +1,8 @@
 -- Moments of times and windows: they rise, and each has one before it.
-use Rattle.std.proofs.Common.{◌≡◌, ℕ, zero, suc, ◌+◌, ◌<◌, ◌≤◌, ◌⊎◌, Bool, true, false, min, Option, Some, None, refl, sym, ap, ◌∙◌, subst, inl, inr, arith}
+use Rattle.std.proofs.Common.{◌≡◌, ℕ, zero, suc, ◌+◌, ◌<◌, ◌≤◌, ◌⊎◌, true, false, Option, Some, None, refl, sym, ap, ◌∙◌, subst, inl, inr, arith}
 use Rattle.event_order.proofs.Steps.{lt_or_ge, lt_or_same}
 use Rattle.ssf_model.specs.Scene.{Scene, event_at, time_of, channel_of}
-use Rattle.ssf_model.specs.Truth.{is_on_line, IsCut, IsLeastFrom, next_window, IsWindow}
+use Rattle.ssf_model.specs.Truth.{IsCut, IsLeastFrom, next_window, IsWindow}
 use Rattle.sync_rules.specs.Shared.{IsShared, IsWrittenBy}
 use Rattle.sync_rules.specs.Sound.{made}
 use Rattle.sync_rules.proofs.Runs.{some_or_none, times, in_time, before_over}

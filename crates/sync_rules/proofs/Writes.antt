@@ -1,19 +1,19 @@
 -- The writes of a run by their places on channels.
-use Rattle.std.proofs.Common.{ℕ, zero, suc, ◌≡◌, ◌⊎◌, ◌+◌, ◌-◌, ◌<◌, ◌≤◌, ◌∙◌, sym, ap, subst, refl, inl, inr, Bool, true, false, nat_eq, List, [], ◌∷◌, ◌++◌, length, Option, Some, None, slice_get, arith, zero-add, suc-add, append-nil, length-append, eqb-true, eq-eqb}
+use Rattle.std.proofs.Common.{ℕ, zero, suc, ◌≡◌, ◌⊎◌, ◌+◌, ◌<◌, ◌≤◌, ◌∙◌, sym, ap, subst, refl, inl, inr, Bool, true, false, List, [], ◌∷◌, ◌++◌, length, Some, None, slice_get, arith, zero-add, suc-add, append-nil, length-append, eqb-true, eq-eqb}
 use Rattle.std.specs.List.{filter, flat_map}
 use Rattle.std.proofs.lemmas.List.Elements.{filter-append}
 use Rattle.event_order.specs.declared.key.Key.{Key}
 use Rattle.event_order.specs.Pending.{Among, IsApart}
 use Rattle.event_order.specs.Machine.{option_list}
-use Rattle.event_order.proofs.Pending.{test_cases, among_append_right, append_among, among_filter, filter_among, filter_apart}
+use Rattle.event_order.proofs.Pending.{test_cases, among_filter, filter_among, filter_apart}
 use Rattle.event_order.proofs.Steps.{lt_or_ge, lt_or_same, difference}
-use Rattle.ssf_model.specs.Scene.{Scene, world_at, event_at, time_of, channel_of}
-use Rattle.ssf_model.specs.Truth.{is_on_line, writes_within, writes_on, has_channel, IsWrite, IsRunWrite, IsStretch, IsPromise, IsTrueParcel, IsCut, IsKeptWrite}
+use Rattle.ssf_model.specs.Scene.{Scene, world_at, event_at, channel_of}
+use Rattle.ssf_model.specs.Truth.{is_on_line, writes_within, writes_on, has_channel, IsWrite, IsStretch, IsKeptWrite}
 use Rattle.ssf_model.proofs.Lists.{place_of, place_among, among_place, within_of}
 use Rattle.ssf_model.proofs.Places.{one_write, stretch_length, stretch_at, stretch_of}
-use Rattle.sync_rules.specs.Shared.{IsShared, IsWrittenBy, IsRouted}
+use Rattle.sync_rules.specs.Shared.{IsShared, IsWrittenBy}
 use Rattle.sync_rules.specs.Sound.{made}
-use Rattle.sync_rules.proofs.Runs.{some_or_none, given, given_from, next_state, one_event, earlier}
+use Rattle.sync_rules.proofs.Runs.{some_or_none, given, given_from, next_state, one_event}
 
 -- ---- lists
 

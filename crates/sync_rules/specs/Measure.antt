@@ -1,7 +1,7 @@
 -- How much is left to do: five numbers, of which each step lowers one and raises none before it.
-use Rattle.std.specs.Prelude.{ℕ, zero, suc, ◌≡◌, ◌+◌, ◌-◌, ◌*◌, ◌<◌, ◌≤◌, Bool, cond, nat_lt, length}
+use Rattle.std.specs.Prelude.{ℕ, zero, suc, ◌+◌, ◌-◌, ◌*◌, ◌<◌, ◌≤◌, cond, nat_lt, length}
 use Rattle.ssf_model.specs.Scene.{Scene}
-use Rattle.sync_rules.specs.Parts.{Line, MailOf, BarrierOf, CoreOf}
+use Rattle.sync_rules.specs.Parts.{Line, BarrierOf, CoreOf}
 
 pub record Left : Type 0 where
   pub time : ℕ

@@ -1,6 +1,6 @@
 -- What it means that a timeline, the mail on a channel and the barrier are sound for a run: what they hold is what the
 -- run has there.
-use Rattle.std.specs.Prelude.{ℕ, ◌≡◌, ◌+◌, ◌<◌, ◌≤◌, ◌⊎◌, Bool, true, false, length, Some}
+use Rattle.std.specs.Prelude.{ℕ, ◌≡◌, ◌+◌, ◌<◌, ◌≤◌, ◌⊎◌, true, false, length, Some}
 use Rattle.event_order.specs.Pending.{Among}
 use Rattle.ssf_model.specs.Scene.{Scene, event_at, time_of, channel_of}
 use Rattle.ssf_model.specs.Truth.{is_on_line, line_events, writes_on, IsWrite, IsStretch, IsPromise, IsTrueParcel, IsCut, IsWindow, IsKeptWrite, IsStanding}

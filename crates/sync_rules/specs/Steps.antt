@@ -1,11 +1,11 @@
 -- The six steps: when each of them is enabled, and what it makes of the parts that it touches. Each leaves all else as it is.
-use Rattle.std.specs.Prelude.{ℕ, zero, suc, ◌≡◌, ◌+◌, ◌<◌, ◌≤◌, ◌⊎◌, Bool, true, false, cond, nat_le, ◌&&◌, min, max, List, [], ◌∷◌, ◌++◌, length, Some}
+use Rattle.std.specs.Prelude.{ℕ, zero, suc, ◌≡◌, ◌+◌, ◌<◌, ◌≤◌, ◌⊎◌, true, false, cond, nat_le, ◌&&◌, min, max, List, [], ◌∷◌, ◌++◌, length, Some}
 use Rattle.std.specs.List.{filter}
 use Rattle.event_order.specs.Pending.{put_all}
 use Rattle.ssf_model.specs.Scene.{Scene, Net, world_at, event_at, time_of, channel_of}
 use Rattle.ssf_model.specs.Truth.{is_on_line, has_channel, next_window}
 use Rattle.sync_rules.specs.Parts.{Line, MailOf, BarrierOf, CoreOf, put_at}
-use Rattle.sync_rules.specs.Bounds.{IsInto, IsOutOf, goes_out, bound_of, head_time, low_of, promise_of, least_ahead_of}
+use Rattle.sync_rules.specs.Bounds.{IsInto, goes_out, bound_of, low_of, promise_of, least_ahead_of}
 
 -- ---- at first
 
