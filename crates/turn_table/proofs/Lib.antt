@@ -1,0 +1,6 @@
+mod Lookups
+mod Seats
+mod Core
+mod Words
+mod Moves
+mod Passing
