@@ -3,4 +3,6 @@ mod Seats
 mod Core
 mod Words
 mod Moves
+mod Hands
 mod Passing
+mod Reseating
