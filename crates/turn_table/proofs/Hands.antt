@@ -1,5 +1,5 @@
 -- A seat's view and the slots in its hand, from one step to the next.
-use Rattle.std.proofs.Common.{◌≡◌, ◌≢◌, ℕ, ◌+◌, ◌<◌, List, [], ◌∷◌, refl, sym, ap, subst, ◌∙◌, arith}
+use Rattle.std.proofs.Common.{◌≡◌, ◌≢◌, ℕ, ◌+◌, ◌<◌, List, [], ◌∷◌, refl, sym, ap, subst, ◌∙◌, arith, Vec, Global}
 use Rattle.atomic_table.specs.Seated.{TableId}
 use Rattle.atomic_table.specs.Table.{State, Me, Allows, rest}
 use Rattle.turn_table.specs.declared.cell.Cell.{Cell}
@@ -34,13 +34,9 @@ module _ {S : Type 0} where
   unfolding value_first
   same_first l p q a b t u x y = ap (value_first a) (sym x ∙ y)
 
--- the place is one of the shape's
-pub place_within : (z : TableId) (shape : Shape) (p : Pass) (places place : ℕ) → z.slots ≡ places + 1 → IsSeated z shape p → place < places → place < places_in shape
-place_within z shape p places place a s h = let b = s.slots in omega arith
-
--- its turn word is one of the table's
-pub turn_within : (z : TableId) (shape : Shape) (p : Pass) (places place : ℕ) → z.slots ≡ places + 1 → IsSeated z shape p → place < places → place + 1 < z.words
-turn_within z shape p places place a s h = let b = s.slots in let c = s.words in omega arith
+-- the turn word of a place is one of the table's
+pub turn_within : (z : TableId) (shape : Shape) (p : Pass) (place : ℕ) → IsSeated z shape p → place < places_in shape → place + 1 < z.words
+turn_within z shape p place s h = let c = s.words in omega arith
 
 -- a count word is one of the table's, and where it lies
 pub count_at : (z : TableId) (shape : Shape) (p : Pass) (places word : ℕ) → z.slots ≡ places + 1 → IsSeated z shape p → word < words_in shape
@@ -65,3 +61,13 @@ same_value x y e = ap (value_or x) e
 
 pub is_value : {T : Type 0} (cell : Cell T) (x : T) → cell ≡ Value x → IsValue cell
 is_value cell x e = subst IsValue (sym e) tt
+
+room_or : {T : Type 0} → Vec T Global → Cell T → Vec T Global
+room_or d (Value x) = d
+room_or d Empty = d
+room_or d (Room r) = r
+
+-- the room of a cell is one thing
+pub same_room : {T : Type 0} (x y : Vec T Global) → Room x ≡ Room y → x ≡ y
+unfolding room_or
+same_room x y e = ap (room_or x) e

@@ -1,7 +1,9 @@
 mod Lookups
 mod Seats
+mod CellLists
 mod Core
 mod Words
+pub mod Sharing
 mod Moves
 mod Hands
 mod Passing

@@ -31,7 +31,7 @@ live_above : (v : View) → 0 < v.number → live v ≡ 1
 live_above v h = cond_else v.number 0 0 1 (λ z. omega arith)
 
 -- what stands in a list with one item more behind it
-at_end : {A : Type 0} (l : List A) (a b : A) (j : ℕ) → get_elem? (l ++ a ∷ []) j ≡ some b → (get_elem? l j ≡ some b) ⊎ ((a ≡ b) × (j ≡ length l))
+pub at_end : {A : Type 0} (l : List A) (a b : A) (j : ℕ) → get_elem? (l ++ a ∷ []) j ≡ some b → (get_elem? l j ≡ some b) ⊎ ((a ≡ b) × (j ≡ length l))
 at_end [] a b zero e = inr (some-injective a b e, refl)
 at_end [] a b (suc j) e = absurd (some-ne-none b (sym e))
 at_end (x ∷ xs) a b zero e = inl e

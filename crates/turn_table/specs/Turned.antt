@@ -5,7 +5,7 @@ use Rattle.turn_table.specs.declared.pass.Pass.{Pass}
 use Rattle.turn_table.specs.declared.tenant.Tenant.{Ghosts}
 use Rattle.turn_table.specs.declared.turns.Turns.{Turns}
 use Rattle.turn_table.specs.declared.view.Shape.{Shape}
-use Rattle.turn_table.specs.Shapes.{words_in}
+use Rattle.turn_table.specs.Shapes.{places_in, words_in}
 use Rattle.turn_table.specs.Passes.{only, IsSeated}
 
 module _ {T K : Type 0} where
@@ -17,15 +17,19 @@ module _ {T K : Type 0} where
   abbrev pub key_of : Turns T K → K
   key_of t = t.board.table.shared.key
 
-  -- how many places there are
-  abbrev pub places_of : Turns T K → ℕ
-  places_of t = t.board.places
+  -- the number of places that it keeps
+  abbrev pub count_of : Turns T K → ℕ
+  count_of t = t.board.places
 
   -- how many passes were made
   abbrev pub made_of : Turns T K → ℕ
   made_of t = (only t.root.views).made
 
   module _ (g : Ghosts T K) where
+    -- how many places there are
+    abbrev pub places_of : Turns T K → ℕ
+    places_of t = places_in (g.shape (key_of t))
+
     -- how many count words there are
     abbrev pub words_of : Turns T K → ℕ
     words_of t = words_in (g.shape (key_of t))

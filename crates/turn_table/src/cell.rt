@@ -1,6 +1,10 @@
 //! What a slot of the table holds.
-ghost use Rattle.std.specs.Prelude.{◌≡◌, ◌<◌, List, [], vec_len, vec_capacity};
-ghost use Rattle.turn_table.specs.Cells.{IsValue, IsRoom, AreCells};
+ghost use Rattle.std.specs.Prelude.{◌≡◌, ◌+◌, ◌<◌, [], vec_len, vec_capacity};
+ghost use Rattle.std.specs.Slots.{slots_items, slots_len, IsFull};
+ghost use Rattle.turn_table.specs.Cells.{IsValue, IsRoom, AreCells, AreFull, StandIn, values_in};
+
+use atomic_table::Closed;
+use std::alloc::Global;
 
 /// A value, nothing, or the room in which the values are gathered at the end.
 pub enum Cell<V> {
@@ -46,9 +50,8 @@ pub(crate) fn fill<V>(mut values: Vec<V>, cells: &mut Vec<Cell<V>>)
 
 // The values of such cells, in their order, in the room behind them.
 pub(crate) fn empty<V>(mut cells: Vec<Cell<V>>) -> Vec<V>
-    ghost values: { List V }
-    requires { AreCells cells.items values }
-    ensures { result.items ≡ values }
+    requires { AreCells cells.items (values_in cells.items) }
+    ensures { result.items ≡ values_in cells.items }
 {
     let mut room = match cells.pop() {
         Some(last) => into_room(last),
@@ -59,5 +62,21 @@ pub(crate) fn empty<V>(mut cells: Vec<Cell<V>>) -> Vec<V>
     }
     cells.destroy_empty();
     room.reverse();
+    room
+}
+
+// The values of a table's slots, in their order, in the room behind them.
+pub(crate) fn unload<V>(mut closed: Closed<Cell<V>, Global>, places: usize) -> Vec<V>
+    requires filled { IsFull closed.slots }
+    requires count { slots_len closed.slots ≡ places + 1 }
+    requires cells { AreFull (slots_items closed.slots) places }
+    ensures len { vec_len result ≡ places }
+    ensures values { StandIn (slots_items closed.slots) result.items }
+{
+    let mut room = into_room(closed.take(places));
+    for p in 0..places {
+        room.push_reserved(into_value(closed.take(p)));
+    }
+    closed.free();
     room
 }

@@ -2,6 +2,8 @@
 #![tactic(auto)]
 
 mod cell;
+mod gathering;
+mod opening;
 mod pass;
 mod rule;
 mod tenant;
@@ -10,4 +12,5 @@ mod view;
 
 pub use pass::{Held, Pass, Turn};
 pub use tenant::Tenant;
+pub use turns::Turns;
 pub use view::{Shape, View};

@@ -32,15 +32,17 @@ pub struct Turns<V: Tenant> {
 }
 
 impl<V: Tenant> Turns<V> {
+    ghost use Rattle.turn_table.specs.declared.pass.Pass.{Pass};
     ghost use Rattle.turn_table.specs.Passes.{view_of, holds_at, note_of, HoldsNone};
-    ghost use Rattle.turn_table.specs.Shapes.{spoken, places_in};
-    ghost use Rattle.turn_table.specs.Turned.{table_of, key_of, places_of, words_of, IsPassOf};
+    ghost use Rattle.turn_table.specs.Shapes.{spoken};
+    ghost use Rattle.turn_table.specs.Turned.{table_of, key_of, count_of, places_of, words_of, IsPassOf};
     ghost use Rattle.turn_table.specs.Steps.{Fits, Above, Tells, Pays, KeepsWith};
     ghost use Rattle.turn_table.specs.Views.{held, mark, moving_out, moving_home, taking, losing, giving, reading, writing, looking};
 
     /// How many places there are.
     pub fn places(&self) -> u32
-        ensures { result ≡ places_of self.now }
+        ensures count { result ≡ count_of self.now }
+        ensures places { (p : Pass) → IsPassOf V.Tenant self.now p → result ≡ places_of V.Tenant self.now }
     {
         self.board.places
     }
@@ -50,7 +52,7 @@ impl<V: Tenant> Turns<V> {
     /// `None` comes exactly where the pass's count of lost tries of the place rose, which happens where the turn was found held.
     pub fn try_take(&self, pass: &mut Pass, place: u32) -> Option<Turn>
         requires pass { IsPassOf V.Tenant self.now pass.old }
-        requires place { place < places_of self.now }
+        requires place { place < places_of V.Tenant self.now }
         requires free { holds_at pass.old place ≡ 0 }
         ensures pass { IsPassOf V.Tenant self.now pass.new }
         ensures turn { MatchOption result (view_of pass.new ≡ losing (view_of pass.old) place) (λ t. (t.place ≡ place) × (view_of pass.new ≡ taking (view_of pass.old) place)) }
@@ -71,10 +73,9 @@ impl<V: Tenant> Turns<V> {
     fn reach<R: About<V::Key>>(&self, seat: &mut Seat<Cell<V>, View>, place: u32) -> V
         requires about { R.key ≡ Some (key_of self.now) }
         requires table { (seat.old.table_id ≡ table_of self.now) × (seat.old.me.1 ≡ []) }
-        requires place { place < places_of self.now }
+        requires place { place < places_of V.Tenant self.now }
         requires shape { seat.old.me.0.shape ≡ V.shape (key_of self.now) }
-        requires slots { places_of self.now ≡ places_in (V.shape (key_of self.now)) }
-        requires words { places_of self.now < (table_of self.now).words }
+        requires words { place + 1 < (table_of self.now).words }
         requires held { held seat.old.me.0 place ≡ 1 }
         ensures seat { (seat.new.table_id ≡ seat.old.table_id) × (seat.new.me ≡ (moving_out seat.old.me.0 place, [])) }
         ensures value { Tells V.Tenant (key_of self.now) seat.old.me.0 place result }
@@ -89,7 +90,7 @@ impl<V: Tenant> Turns<V> {
     /// Moves the value of a held place out.
     pub fn bring(&self, pass: &mut Pass, turn: Turn) -> Held<V>
         requires pass { IsPassOf V.Tenant self.now pass.old }
-        requires place { turn.place < places_of self.now }
+        requires place { turn.place < places_of V.Tenant self.now }
         requires held { holds_at pass.old turn.place ≡ 1 }
         ensures pass { IsPassOf V.Tenant self.now pass.new }
         ensures view { view_of pass.new ≡ moving_out (view_of pass.old) turn.place }
@@ -106,7 +107,7 @@ impl<V: Tenant> Turns<V> {
     /// Moves a value home under its place, and keeps the turn.
     pub fn put(&self, pass: &mut Pass, held: Held<V>) -> Turn
         requires pass { IsPassOf V.Tenant self.now pass.old }
-        requires place { held.place < places_of self.now }
+        requires place { held.place < places_of V.Tenant self.now }
         requires held { holds_at pass.old held.place ≡ 2 }
         requires sound { V.sound (key_of self.now) held.place held.value }
         requires marked { V.marked (key_of self.now) (mark (view_of pass.old)) held.place held.value }
@@ -129,7 +130,7 @@ impl<V: Tenant> Turns<V> {
     /// Gives a turn whose value is at home.
     pub fn leave(&self, pass: &mut Pass, turn: Turn)
         requires pass { IsPassOf V.Tenant self.now pass.old }
-        requires place { turn.place < places_of self.now }
+        requires place { turn.place < places_of V.Tenant self.now }
         requires held { holds_at pass.old turn.place ≡ 1 }
         ensures pass { IsPassOf V.Tenant self.now pass.new }
         ensures view { view_of pass.new ≡ giving (view_of pass.old) turn.place }
@@ -146,7 +147,7 @@ impl<V: Tenant> Turns<V> {
     /// Moves a value home under its place, and gives the turn.
     pub fn give(&self, pass: &mut Pass, held: Held<V>)
         requires pass { IsPassOf V.Tenant self.now pass.old }
-        requires place { held.place < places_of self.now }
+        requires place { held.place < places_of V.Tenant self.now }
         requires held { holds_at pass.old held.place ≡ 2 }
         requires sound { V.sound (key_of self.now) held.place held.value }
         requires marked { V.marked (key_of self.now) (mark (view_of pass.old)) held.place held.value }

@@ -8,7 +8,7 @@ use Rattle.turn_table.specs.Rule.{Kept}
 use Rattle.turn_table.specs.Passes.{view_of}
 use Rattle.turn_table.specs.Steps.{tried, reached, emptied, entered, settled, given, read, written, looked, raised, Pays}
 use Rattle.turn_table.specs.Views.{holding, moving_out, moving_home, giving, reading, writing, looking}
-use Rattle.turn_table.proofs.Hands.{from, both, first_of, same_first, place_within, turn_within, count_at}
+use Rattle.turn_table.proofs.Hands.{from, both, first_of, same_first, turn_within, count_at}
 use Rattle.turn_table.proofs.Moves.{reaches, clears, enters, settles, gives_up, reads, writes, looks, raises}
 use Rattle.turn_table.proofs.Reseating.{reseated_by, viewing_by}
 use Rattle.turn_table.proofs.turns.Turns.leave.Goals as goal
@@ -16,12 +16,12 @@ use Rattle.turn_table.proofs.turns.Turns.leave.Goals as goal
 pub store-requires : goal.store-requires
 store-requires g c =
     let own = c.requires.pass in let z = c.args.self.now.board.table.shared.table_id in let key = c.args.self.now.board.table.shared.key in
-    let place = c.args.turn.place in let v = view_of c.args.pass.now in let shape = g.V.Tenant.shape key in let slots = c.args.self.now.board.slots in
+    let place = c.args.turn.place in let v = view_of c.args.pass.now in let shape = g.V.Tenant.shape key in
     (
       c.sit-seat.ensures.table ∙ own.table,
-      turn_within z shape c.args.pass.now c.args.self.now.board.places place slots own c.requires.place,
+      turn_within z shape c.args.pass.now place own c.requires.place,
       from (Kept g.V.Tenant key) z.slots c.sit-seat.result.id (place + 1) (λ _. 0) (λ me n. given (step z.slots (place + 1) 0 0 none) me 0) c.sit-seat.result.me (v, []) c.sit-seat.ensures.me
-        (gives_up g.V.Tenant key z.slots c.sit-seat.result.id v [] place (place_within z shape c.args.pass.now c.args.self.now.board.places place slots own c.requires.place) own.shaped c.requires.held),
+        (gives_up g.V.Tenant key z.slots c.sit-seat.result.id v [] place c.requires.place own.shaped c.requires.held),
     )
 
 abbrev after : {S : Type 0} → ℕ → Me S View → Me S View

@@ -9,7 +9,7 @@ use Rattle.turn_table.specs.Passes.{view_of}
 use Rattle.turn_table.specs.Steps.{tried, reached, emptied, entered, settled, given, read, written, looked, raised, Tells}
 use Rattle.turn_table.specs.Views.{holding, moving_out, moving_home, giving, reading, writing, looking}
 use Rattle.turn_table.proofs.Lookups.{at_here}
-use Rattle.turn_table.proofs.Hands.{from, both, first_of, swapped, swapped_out, same_value, is_value, place_within, turn_within, count_at}
+use Rattle.turn_table.proofs.Hands.{from, both, first_of, swapped, swapped_out, same_value, is_value, turn_within, count_at}
 use Rattle.turn_table.proofs.Moves.{reaches, clears, enters, settles, gives_up, reads, writes, looks, raises}
 use Rattle.turn_table.proofs.Reseating.{reseated_by, viewing_by}
 use Rattle.turn_table.proofs.turns.Turns.reach.Goals as goal
@@ -20,9 +20,9 @@ load-requires g c =
     let place = c.args.place in let v = c.args.seat.now.me.0 in
     (
       c.requires.table.0,
-      (let a = c.requires.place in let b = c.requires.words in omega arith),
+      c.requires.words,
       from (Kept g.V.Tenant key) z.slots c.args.seat.now.id (place + 1) (λ n. n) (λ me n. reached g.V.Tenant g.R.About.key (step z.slots (place + 1) 0 0 none) me n) c.args.seat.now.me (v, []) (both _ v [] refl c.requires.table.1)
-        (reaches g.V.Tenant key z.slots c.args.seat.now.id v [] place (let a = c.requires.place in let b = c.requires.slots in omega arith) c.requires.shape c.requires.held g.R.About.key c.requires.about),
+        (reaches g.V.Tenant key z.slots c.args.seat.now.id v [] place c.requires.place c.requires.shape c.requires.held g.R.About.key c.requires.about),
     )
 
 pub exchange-cell-requires : goal.exchange-cell-requires
@@ -39,9 +39,9 @@ load-requires-2 g c =
     let me = swapped c.load.new.seat.me c.exchange-cell.new.seat.me (holding v place 3) place (Value told.0) Empty c.args.seat.now.me.1 c.exchange-cell.ensures.3 told.2 in
     (
       c.exchange-cell.ensures.0 ∙ c.load.ensures.0 ∙ c.requires.table.0,
-      (let a = c.requires.place in let b = c.requires.words in omega arith),
+      c.requires.words,
       from (Kept g.V.Tenant key) z.slots c.exchange-cell.new.seat.id (place + 1) (λ n. n) (λ me n. emptied (step z.slots (place + 1) 0 0 none) me n) c.exchange-cell.new.seat.me (holding v place 3, (place, Empty) ∷ c.args.seat.now.me.1) me
-        (clears g.V.Tenant key z.slots c.exchange-cell.new.seat.id (holding v place 3) c.args.seat.now.me.1 place (let a = c.requires.place in let b = c.requires.slots in omega arith) c.requires.shape (at_here v.held place 3)),
+        (clears g.V.Tenant key z.slots c.exchange-cell.new.seat.id (holding v place 3) c.args.seat.now.me.1 place c.requires.place c.requires.shape (at_here v.held place 3)),
     )
 
 pub into_value-requires : goal.into_value-requires

@@ -7,7 +7,7 @@ use Rattle.turn_table.specs.Rule.{Kept}
 use Rattle.turn_table.specs.Views.{taking, losing}
 use Rattle.turn_table.specs.Passes.{view_of}
 use Rattle.turn_table.specs.Steps.{tried}
-use Rattle.turn_table.proofs.Hands.{from, place_within, turn_within}
+use Rattle.turn_table.proofs.Hands.{from, turn_within}
 use Rattle.turn_table.proofs.Moves.{tries}
 use Rattle.turn_table.proofs.Reseating.{reseated_by, after_try}
 use Rattle.turn_table.proofs.turns.Turns.try_take.Goals as goal
@@ -27,10 +27,10 @@ compare_exchange-found-requires g c =
     let shape = g.V.Tenant.shape key in
     (
       c.sit-seat.ensures.table ∙ own.table,
-      turn_within z shape c.args.pass.now c.args.self.now.board.places place c.args.self.now.board.slots own c.requires.place,
+      turn_within z shape c.args.pass.now place own c.requires.place,
       from (Kept g.V.Tenant key) z.slots c.sit-seat.result.id (place + 1) (λ n. either (n == 0) c.args.pass.now.number n) (λ me. tried (step z.slots (place + 1) 0 c.args.pass.now.number none) me)
         c.sit-seat.result.me (v, []) c.sit-seat.ensures.me
-        (tries g.V.Tenant key z.slots c.sit-seat.result.id v [] place (place_within z shape c.args.pass.now c.args.self.now.board.places place c.args.self.now.board.slots own c.requires.place) own.shaped
+        (tries g.V.Tenant key z.slots c.sit-seat.result.id v [] place c.requires.place own.shaped
           c.args.pass.now.number own.lives own.number c.requires.free),
     )
 

@@ -8,7 +8,7 @@ use Rattle.turn_table.specs.Rule.{Kept}
 use Rattle.turn_table.specs.Passes.{view_of}
 use Rattle.turn_table.specs.Steps.{tried, reached, emptied, entered, settled, given, read, written, looked, raised, Pays}
 use Rattle.turn_table.specs.Views.{holding, moving_out, moving_home, giving, reading, writing, looking}
-use Rattle.turn_table.proofs.Hands.{from, both, first_of, same_first, place_within, turn_within, count_at}
+use Rattle.turn_table.proofs.Hands.{from, both, first_of, same_first, turn_within, count_at}
 use Rattle.turn_table.proofs.Moves.{reaches, clears, enters, settles, gives_up, reads, writes, looks, raises}
 use Rattle.turn_table.proofs.Reseating.{reseated_by, viewing_by}
 use Rattle.turn_table.proofs.turns.Turns.write.Goals as goal
