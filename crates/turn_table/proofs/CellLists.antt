@@ -1,21 +1,21 @@
 -- Lists of cells: how values go into them and come out, and the opening and the end of a table's slots.
-use Rattle.std.proofs.Common.{◌≡◌, ◌≢◌, ℕ, zero, suc, ◌+◌, ◌<◌, ◌≤◌, ◌⊎◌, Bool, true, false, List, [], ◌∷◌, ◌++◌, map, length, get_or, set, replicate, All, reverse, slice_index, slice_index_or, refl, sym, ap, subst, ◌∙◌, inl, inr, ⊎_elim, arith, vec_len, vec_capacity, append-nil, append_assoc, get_or-set_other, length-append, get_or-append-add}
+use Rattle.std.proofs.Common.{◌≡◌, ℕ, zero, suc, ◌+◌, ◌<◌, Bool, true, false, List, [], ◌∷◌, ◌++◌, length, get_or, set, replicate, All, reverse, slice_index, refl, sym, ap, subst, ◌∙◌, arith, length-append, get_or-append-add}
 use Rattle.std.proofs.lemmas.List.{reverse-append, length-replicate}
-use mathlib.Core.Option.{Option, some, none, some-injective, some-ne-none}
+use mathlib.Core.Option.{some, some-injective, some-ne-none}
 use lib.ListN.{get_elem?}
-use Rattle.atomic_table.specs.Table.{State, opening, Final, Seen}
+use Rattle.atomic_table.specs.Table.{opening, Final, Seen}
 use Rattle.atomic_table.proofs.Lists.{at_last, at_longer, at_map}
 use Rattle.turn_table.specs.declared.cell.Cell.{Cell}
 use Rattle.turn_table.specs.declared.cell.Cell.TheVariants.{Value, Empty, Room}
 use Rattle.turn_table.specs.declared.tenant.Tenant.{Ghosts}
 use Rattle.turn_table.specs.declared.view.View.{View}
 use Rattle.turn_table.specs.Cells.{IsValue, IsRoom, valued, values_in, AreCells, AreFull, StandIn}
-use Rattle.turn_table.specs.Rule.{count_word, HasRoom, IsHome, Kept, AreHome}
+use Rattle.turn_table.specs.Rule.{count_word, IsHome, Kept, AreHome}
 use Rattle.turn_table.specs.Shapes.{places_in, words_in}
 use Rattle.turn_table.specs.Views.{rooted}
-use Rattle.turn_table.proofs.Lookups.{alike, below}
+use Rattle.turn_table.proofs.Lookups.{below}
 use Rattle.turn_table.proofs.Hands.{same_value}
-use Rattle.turn_table.proofs.Passing.{at_end, opens, closes}
+use Rattle.turn_table.proofs.Passing.{opens, closes}
 
 module _ {A : Type 0} where
   init : List A → List A
@@ -146,21 +146,21 @@ module _ {T K : Type 0} (g : Ghosts T K) (key : K) where
       let zeros : length Z ≡ places + 1 = length-replicate (places + 1) 0 in
       let lv = length-valued values in let hp = home.places in
       let word : (c : ℕ) → count_word (g.shape key) ws c ≡ slice_index counts c = λ c.
-          let index : places_in (g.shape key) + 1 + c ≡ length Z + c = omega (arith, zeros, is_places) in
-          ap (λ l. get_or l (places_in (g.shape key) + 1 + c) 0) made ∙ ap (get_at (Z ++ counts)) index ∙ get_or-append-add Z counts c 0 in
+      let index : places_in (g.shape key) + 1 + c ≡ length Z + c = omega (arith, zeros, is_places) in
+      ap (λ l. get_or l (places_in (g.shape key) + 1 + c) 0) made ∙ ap (get_at (Z ++ counts)) index ∙ get_or-append-add Z counts c 0 in
       let counted : (λ c. slice_index counts c) ≡ count_word (g.shape key) ws = (let back : count_word (g.shape key) ws ≡ (λ c. slice_index counts c) = λ i c. word c i in sym back) in
       opens g key ws cells
-        (ap length made ∙ length-append Z counts ∙ omega (arith, zeros, is_places, words))
-        (length_cells cells values (places_in (g.shape key)) a hp)
-        (record {
-          room = a.room;
-          stands = at_map some cells (places_in (g.shape key)) (Room a.room) (ap (λ l. get_elem? l (places_in (g.shape key))) a.same ∙ at_last (valued values) (Room a.room) (places_in (g.shape key)) (lv ∙ hp));
-          bare = a.bare;
-          wide = (let w = a.wide in omega arith);
-        })
-        (subst (g.keeps key) counted home.kept)
-        (λ p within. let x = present values p (omega arith) in
-          (x.0, ap (λ l. get_elem? l p) a.same ∙ at_longer (valued values) (Room a.room ∷ []) p (Value x.0) (at_valued values p x.0 x.1), home.sound p x.0 x.1, subst (λ f. g.owes key f p x.0) counted (home.owed p x.0 x.1)))
+      (ap length made ∙ length-append Z counts ∙ omega (arith, zeros, is_places, words))
+      (length_cells cells values (places_in (g.shape key)) a hp)
+      (record {
+        room = a.room;
+        stands = at_map some cells (places_in (g.shape key)) (Room a.room) (ap (λ l. get_elem? l (places_in (g.shape key))) a.same ∙ at_last (valued values) (Room a.room) (places_in (g.shape key)) (lv ∙ hp));
+        bare = a.bare;
+        wide = (let w = a.wide in omega arith);
+      })
+      (subst (g.keeps key) counted home.kept)
+      (λ p within. let x = present values p (omega arith) in
+      (x.0, ap (λ l. get_elem? l p) a.same ∙ at_longer (valued values) (Room a.room ∷ []) p (Value x.0) (at_valued values p x.0 x.1), home.sound p x.0 x.1, subst (λ f. g.owes key f p x.0) counted (home.owed p x.0 x.1)))
 
   module _ (id : ℕ) (v : View) (ws : List ℕ) (xs : List (Cell T)) (f : Final (Seen (Kept g key) id v) ws xs) (root : v.is_root ≡ true) (back : length v.back ≡ v.made) (places : ℕ) (len : length xs ≡ places + 1) where
     pub same_places : places ≡ places_in (g.shape key)
@@ -186,9 +186,12 @@ module _ {T K : Type 0} (g : Ghosts T K) (key : K) where
 
     -- and the values in them are true to the counts at the end
     pub gathered_home : (values : List T) → StandIn xs values → length values ≡ places → (counts : ℕ → ℕ) × AreHome g key counts values
-    gathered_home values stand count = (count_word (g.shape key) f.0.words, record {
-      places = count ∙ same_places;
-      sound = λ p x e. (standing values stand count p x e).0;
-      owed = λ p x e. (standing values stand count p x e).1;
-      kept = f.1.0.kept;
-    })
+    gathered_home values stand count = (
+      count_word (g.shape key) f.0.words,
+      record {
+        places = count ∙ same_places;
+        sound = λ p x e. (standing values stand count p x e).0;
+        owed = λ p x e. (standing values stand count p x e).1;
+        kept = f.1.0.kept;
+      },
+    )

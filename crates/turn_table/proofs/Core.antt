@@ -1,17 +1,16 @@
 -- A step at one place that its seat alone can hold.
-use Rattle.std.proofs.Common.{◌≡◌, ◌≢◌, ℕ, zero, suc, ◌+◌, ◌<◌, ◌≤◌, ◌==◌, ◌⊎◌, Bool, true, false, cond, List, [], ◌∷◌, length, get_or, set, refl, sym, ap, subst, ◌∙◌, inl, inr, ⊎_elim, arith, eq-zero-or-pos}
-use mathlib.Core.Option.{Option, some, none, some-injective, some-ne-none}
+use Rattle.std.proofs.Common.{◌≡◌, ◌≢◌, ℕ, suc, ◌<◌, ◌≤◌, ◌⊎◌, true, List, length, set, sym, ap, subst, ◌∙◌, ⊎_elim, arith, eq-zero-or-pos}
+use mathlib.Core.Option.{Option, some, some-injective}
 use lib.ListN.{get_elem?}
 use Rattle.atomic_table.specs.Table.{State}
-use Rattle.atomic_table.proofs.Lists.{at_set, set_here, set_else}
+use Rattle.atomic_table.proofs.Lists.{set_else}
 use Rattle.turn_table.specs.declared.cell.Cell.{Cell}
-use Rattle.turn_table.specs.declared.cell.Cell.TheVariants.{Value, Empty, Room}
+use Rattle.turn_table.specs.declared.cell.Cell.TheVariants.{Value, Empty}
 use Rattle.turn_table.specs.declared.tenant.Tenant.{Ghosts}
-use Rattle.turn_table.specs.declared.view.Shape.{Shape}
 use Rattle.turn_table.specs.declared.view.View.{View}
 use Rattle.turn_table.specs.Shapes.{places_in, words_in}
 use Rattle.turn_table.specs.Views.{held, note, mark, is_spoken_for}
-use Rattle.turn_table.specs.Rule.{turn_word, count_word, Each, IsInUse, living, HasRoom, IsHome, Kept}
+use Rattle.turn_table.specs.Rule.{turn_word, count_word, Each, IsHome, Kept}
 use Rattle.turn_table.proofs.Lookups.{alike, set_there}
 use Rattle.turn_table.proofs.Seats.{each, each_else, IsSelf, Seats, seats_same}
 
@@ -50,31 +49,35 @@ module _ {T K : Type 0} (g : Ghosts T K) (key : K) where
     touched_named = each_else s.views id w (λ u. (q : ℕ) → 0 < held u q → (0 < u.number) × (turn_word ws q ≡ u.number) × (q < places_in (g.shape key)))
         (λ j u ne at q h. let n = r.named j u at q h in (n.0, t.turns q (λ same. let o : held u q ≡ 0 = ap (held u) same ∙ t.others j u ne at in omega arith) ∙ n.1, n.2))
         (λ q h. alike q p
-            (λ same. let n = t.named (subst (λ k. 0 < held w k) same h) in (n.0, ap (turn_word ws) same ∙ n.1, (let b = t.within in omega arith)))
-            (λ ne. let x = t.helds q ne in let n = r.named id v e q (omega arith) in let m = t.self.number in ((let a = n.0 in omega arith), t.turns q ne ∙ n.1 ∙ sym m, n.2)))
+        (λ same. let n = t.named (subst (λ k. 0 < held w k) same h) in (n.0, ap (turn_word ws) same ∙ n.1, (let b = t.within in omega arith)))
+        (λ ne. let x = t.helds q ne in let n = r.named id v e q (omega arith) in let m = t.self.number in ((let a = n.0 in omega arith), t.turns q ne ∙ n.1 ∙ sym m, n.2)))
 
     touched_counts : count_word (g.shape key) s.words ≡ count_word (g.shape key) ws
     touched_counts = let back : count_word (g.shape key) ws ≡ count_word (g.shape key) s.words = λ i c. t.counts c i in sym back
 
     touched_here : held w p < 2 → IsHome g key (count_word (g.shape key) ws) (set s.views id w) hs p
     touched_here free = let h = t.home free in record {
-      value = h.0; stands = h.1; sound = h.2;
+      value = h.0;
+      stands = h.1;
+      sound = h.2;
       owed = subst (λ f. g.owes key f p h.0) touched_counts h.3;
       marked = each_else s.views id w (λ u. held u p ≡ 1 → g.marked key (mark u) p h.0) (λ j u ne at one. let o = t.others j u ne at in absurd (omega arith)) h.4;
     }
 
     touched_there : (q : ℕ) → q ≢ p → q < places_in (g.shape key) → Each (set s.views id w) (λ u. held u q < 2) → IsHome g key (count_word (g.shape key) ws) (set s.views id w) hs q
     touched_there q ne within free = let same = t.helds q ne in
-      let mine : held v q < 2 = (let f = free id w (set_there s.views id v w e) in omega arith) in
-      let old = r.home q within (λ j u at. alike j id
-          (λ me. let u_v : v ≡ u = some-injective v u (sym e ∙ ap (λ k. get_elem? s.views k) (sym me) ∙ at) in subst (λ k. held k q < 2) u_v mine)
-          (λ other. free j u (set_else s.views id j w other ∙ at))) in
-      record {
-        value = old.value; stands = t.slots q ne ∙ old.stands; sound = old.sound;
-        owed = subst (λ f. g.owes key f q old.value) touched_counts old.owed;
-        marked = each s.views id w (λ u. held u q ≡ 1 → g.marked key (mark u) q old.value) old.marked
-            (λ one. g.forgets key (mark v) (mark w) q old.value t.marks (old.marked id v e (sym same ∙ one)));
-      }
+        let mine : held v q < 2 = (let f = free id w (set_there s.views id v w e) in omega arith) in
+        let old = r.home q within (λ j u at. alike j id
+        (λ me. let u_v : v ≡ u = some-injective v u (sym e ∙ ap (λ k. get_elem? s.views k) (sym me) ∙ at) in subst (λ k. held k q < 2) u_v mine)
+        (λ other. free j u (set_else s.views id j w other ∙ at))) in
+        record {
+          value = old.value;
+          stands = t.slots q ne ∙ old.stands;
+          sound = old.sound;
+          owed = subst (λ f. g.owes key f q old.value) touched_counts old.owed;
+          marked = each s.views id w (λ u. held u q ≡ 1 → g.marked key (mark u) q old.value) old.marked
+              (λ one. g.forgets key (mark v) (mark w) q old.value t.marks (old.marked id v e (sym same ∙ one)));
+        }
 
     pub touched : Kept g key (board ws hs (set s.views id w))
     touched = let seats = seats_same (g.shape key) s.views id v w e t.self (seats_of s r) in record {
@@ -112,15 +115,18 @@ module _ {T K : Type 0} (g : Ghosts T K) (key : K) where
   module _ (s : State (Cell T) View) (r : Kept g key s) (id : ℕ) (v w : View) (e : get_elem? s.views id ≡ some v) (t : Look s id v w) where
     viewed_home : (q : ℕ) → q < places_in (g.shape key) → Each (set s.views id w) (λ u. held u q < 2) → IsHome g key (count_word (g.shape key) s.words) (set s.views id w) s.homes q
     viewed_home q within free = let same = t.helds q in
-      let mine : held v q < 2 = (let f = free id w (set_there s.views id v w e) in omega arith) in
-      let old = r.home q within (λ j u at. alike j id
-          (λ me. let u_v : v ≡ u = some-injective v u (sym e ∙ ap (λ k. get_elem? s.views k) (sym me) ∙ at) in subst (λ k. held k q < 2) u_v mine)
-          (λ other. free j u (set_else s.views id j w other ∙ at))) in
-      record {
-        value = old.value; stands = old.stands; sound = old.sound; owed = old.owed;
-        marked = each s.views id w (λ u. held u q ≡ 1 → g.marked key (mark u) q old.value) old.marked
-            (λ one. t.marked q old.value old.owed (old.marked id v e (sym same ∙ one)));
-      }
+        let mine : held v q < 2 = (let f = free id w (set_there s.views id v w e) in omega arith) in
+        let old = r.home q within (λ j u at. alike j id
+        (λ me. let u_v : v ≡ u = some-injective v u (sym e ∙ ap (λ k. get_elem? s.views k) (sym me) ∙ at) in subst (λ k. held k q < 2) u_v mine)
+        (λ other. free j u (set_else s.views id j w other ∙ at))) in
+        record {
+          value = old.value;
+          stands = old.stands;
+          sound = old.sound;
+          owed = old.owed;
+          marked = each s.views id w (λ u. held u q ≡ 1 → g.marked key (mark u) q old.value) old.marked
+              (λ one. t.marked q old.value old.owed (old.marked id v e (sym same ∙ one)));
+        }
 
     helds_eq : held v ≡ held w
     helds_eq = let back : held w ≡ held v = λ i q. t.helds q i in sym back
@@ -138,8 +144,8 @@ module _ {T K : Type 0} (g : Ghosts T K) (key : K) where
       empty = each s.views id w (λ u. (q : ℕ) → held u q ≡ 2 → get_elem? s.homes q ≡ some (some Empty)) r.empty (λ q two. r.empty id v e q (sym (t.helds q) ∙ two));
       noted = each s.views id w (λ u. (c : ℕ) → 0 < note u c → (c < words_in (g.shape key)) × (is_spoken_for (g.shape key) (held u) c ≡ true) × (note u c ≡ suc (count_word (g.shape key) s.words c))) r.noted
           (λ c h. ⊎_elim
-              (λ k. let n = r.noted id v e c (omega arith) in (n.0, subst (λ f. is_spoken_for (g.shape key) f c ≡ true) helds_eq n.1, k ∙ n.2))
-              (λ n. n) (t.notes c h));
+          (λ k. let n = r.noted id v e c (omega arith) in (n.0, subst (λ f. is_spoken_for (g.shape key) f c ≡ true) helds_eq n.1, k ∙ n.2))
+          (λ n. n) (t.notes c h));
       lower = each s.views id w (λ u. (c : ℕ) → mark u c ≤ count_word (g.shape key) s.words c) r.lower t.lower;
       kept = r.kept;
       numbered = seats.numbered;

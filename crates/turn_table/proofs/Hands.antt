@@ -1,5 +1,5 @@
 -- A seat's view and the slots in its hand, from one step to the next.
-use Rattle.std.proofs.Common.{◌≡◌, ◌≢◌, ℕ, ◌+◌, ◌<◌, List, [], ◌∷◌, refl, sym, ap, subst, ◌∙◌, arith, Vec, Global}
+use Rattle.std.proofs.Common.{◌≡◌, ℕ, ◌+◌, ◌<◌, List, [], ◌∷◌, sym, ap, subst, ◌∙◌, arith, Vec, Global}
 use Rattle.atomic_table.specs.Seated.{TableId}
 use Rattle.atomic_table.specs.Table.{State, Me, Allows, rest}
 use Rattle.turn_table.specs.declared.cell.Cell.{Cell}
@@ -9,7 +9,7 @@ use Rattle.turn_table.specs.declared.pass.Pass.{Pass}
 use Rattle.turn_table.specs.declared.view.Shape.{Shape}
 use Rattle.turn_table.specs.declared.view.View.{View}
 use Rattle.turn_table.specs.Shapes.{places_in, words_in}
-use Rattle.turn_table.specs.Passes.{view_of, IsSeated}
+use Rattle.turn_table.specs.Passes.{IsSeated}
 
 module _ {S : Type 0} where
   -- a step from an equal view and hand

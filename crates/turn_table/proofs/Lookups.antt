@@ -1,10 +1,10 @@
 -- Functions as lists of changes, and lists after one item was set.
-use Rattle.std.proofs.Common.{◌≡◌, ◌≢◌, ℕ, zero, suc, ◌+◌, ◌<◌, ◌==◌, ◌⊎◌, ◌||◌, Bool, true, false, cond, not, eqb, List, [], ◌∷◌, length, get_or, set, refl, sym, ap, subst, ◌∙◌, inl, inr, ⊎_elim, eq-eqb, ne_eqb, eq-zero-or-pos, ltb, ltb-true, lt-ltb, arith, true≢false}
-use mathlib.Core.Option.{Option, some, none, some-injective, some-ne-none}
+use Rattle.std.proofs.Common.{◌≡◌, ◌≢◌, ℕ, zero, suc, ◌<◌, ◌==◌, ◌⊎◌, ◌||◌, Bool, true, false, cond, List, [], ◌∷◌, length, set, refl, sym, ap, ◌∙◌, inl, inr, eq-eqb, ne_eqb, arith}
+use mathlib.Core.Option.{some, some-ne-none}
 use mathlib.Core.Logic.{dite}
 use native.Mathlib.Decide.{ℕ_discrete}
 use lib.ListN.{get_elem?}
-use Rattle.turn_table.specs.Changes.{at, forget, put}
+use Rattle.turn_table.specs.Changes.{at, forget}
 
 -- the two cases of an equation between numbers
 pub alike : {X : Type 0} (a b : ℕ) → (a ≡ b → X) → (a ≢ b → X) → X

@@ -3,24 +3,23 @@ use Rattle.std.proofs.Common.{◌≡◌, ◌≢◌, ℕ, zero, suc, ◌+◌, ◌
 use Rattle.std.proofs.Common as std
 use Rattle.std.proofs.lemmas.Grind.{get_or-set_at}
 use Rattle.std.proofs.lemmas.List.{set-get_or}
-use mathlib.Core.Option.{Option, some, none, some-injective, some-ne-none}
+use mathlib.Core.Option.{Option, some, none, some-injective}
 use lib.ListN.{get_elem?}
 use prog.Atomic.{either}
 use Rattle.atomic_table.specs.Table.{State, Act, keeps, takes, gives, step, stepped, Allows, Me, Valid, carried_after}
-use Rattle.atomic_table.proofs.Lists.{at_set, set_here, set_else, exchanged}
+use Rattle.atomic_table.proofs.Lists.{set_here, set_else, exchanged}
 use Rattle.turn_table.specs.declared.cell.Cell.{Cell}
-use Rattle.turn_table.specs.declared.cell.Cell.TheVariants.{Value, Empty, Room}
+use Rattle.turn_table.specs.declared.cell.Cell.TheVariants.{Value, Empty}
 use Rattle.turn_table.specs.declared.tenant.Tenant.{Ghosts}
-use Rattle.turn_table.specs.declared.view.Shape.{Shape}
 use Rattle.turn_table.specs.declared.view.View.{View}
-use Rattle.turn_table.specs.Changes.{at, forget, put}
-use Rattle.turn_table.specs.Shapes.{places_in, words_in, spoken, Speaks, is_marked, is_cleared}
-use Rattle.turn_table.specs.Views.{held, note, mark, is_spoken_for, holding, taking, losing, giving, reading, writing, looking}
-use Rattle.turn_table.specs.Rule.{turn_word, count_word, Each, IsInUse, living, HasRoom, IsHome, Kept}
-use Rattle.turn_table.specs.Steps.{Fits, Above, Owing, Tells, Pays, OfTurn, OfCount, tried, reached, emptied, entered, settled, given, read, written, looked, raised}
-use Rattle.turn_table.proofs.Lookups.{alike, set_there, at_here, at_else, forgotten, forget_or, forget_left, cond_here, cond_else}
-use Rattle.turn_table.proofs.Seats.{each, each_else, IsSelf, Seats, seats_same, itself}
-use Rattle.turn_table.proofs.Core.{board, seats_of, sole, Touch, touched, Look, viewed}
+use Rattle.turn_table.specs.Changes.{at, put}
+use Rattle.turn_table.specs.Shapes.{places_in, words_in, is_marked, is_cleared}
+use Rattle.turn_table.specs.Views.{held, mark, is_spoken_for, holding, taking, losing, giving, reading, writing, looking}
+use Rattle.turn_table.specs.Rule.{turn_word, count_word, IsHome, Kept}
+use Rattle.turn_table.specs.Steps.{Tells, Pays, tried, reached, emptied, entered, settled, given, read, written, looked, raised}
+use Rattle.turn_table.proofs.Lookups.{alike, at_here, at_else, forgotten, forget_or, forget_left, cond_here, cond_else}
+use Rattle.turn_table.proofs.Seats.{itself}
+use Rattle.turn_table.proofs.Core.{board, sole, Touch, touched, viewed}
 use Rattle.turn_table.proofs.Words.{spoken_more, marks_of, reworded, Writes, wrote}
 
 -- a word is spoken of by a held place, so its negation is false
@@ -89,11 +88,21 @@ module _ {T K : Type 0} (g : Ghosts T K) (key : K) where
       pub tries : Allows (Kept g key) slots id (v, hand) (p + 1) (λ n. either (n == 0) num n) (tried (step slots (p + 1) 0 num none) (v, hand))
       tries s r deep e small = exchanged (slice_index s.words (p + 1)) 0 num
           (λ m. (w : View) × (a : Act (Cell T)) × Valid s.homes hand a × Kept g key (stepped s (p + 1) m id hand w a) × tried (step slots (p + 1) 0 num none) (v, hand) (slice_index s.words (p + 1)) (w, carried_after hand a))
-          (λ found. (taking v p, keeps, tt, touched g key s r id v (taking v p) (set s.words (p + 1) num) s.homes p e (won s r deep e found),
-              λ q at. of_turn p q (λ q. (slice_index s.words (p + 1) ≡ 0 → Is (taking v p, hand) (taking v q, hand)) × (slice_index s.words (p + 1) ≢ 0 → Is (taking v p, hand) (losing v q, hand))) at (λ h. refl, λ ne. absurd (ne found))))
-          (λ other. (losing v p, keeps, tt, again s s.homes (set s.views id (losing v p)) (p + 1) (viewed g key s r id v (losing v p) e
+          (λ found. (
+            taking v p,
+            keeps,
+            tt,
+            touched g key s r id v (taking v p) (set s.words (p + 1) num) s.homes p e (won s r deep e found),
+            λ q at. of_turn p q (λ q. (slice_index s.words (p + 1) ≡ 0 → Is (taking v p, hand) (taking v q, hand)) × (slice_index s.words (p + 1) ≢ 0 → Is (taking v p, hand) (losing v q, hand))) at (λ h. refl, λ ne. absurd (ne found)),
+          ))
+          (λ other. (
+            losing v p,
+            keeps,
+            tt,
+            again s s.homes (set s.views id (losing v p)) (p + 1) (viewed g key s r id v (losing v p) e
                 (record { self = record { root = refl; number = refl; made = refl; back = refl; shape = refl }; helds = λ q. refl; notes = λ c h. inl refl; lower = r.lower id v e; marked = λ q x o m. m })),
-              λ q at. of_turn p q (λ q. (slice_index s.words (p + 1) ≡ 0 → Is (losing v p, hand) (taking v q, hand)) × (slice_index s.words (p + 1) ≢ 0 → Is (losing v p, hand) (losing v q, hand))) at (λ h. absurd (other h), λ ne. refl)))
+            λ q at. of_turn p q (λ q. (slice_index s.words (p + 1) ≡ 0 → Is (losing v p, hand) (taking v q, hand)) × (slice_index s.words (p + 1) ≢ 0 → Is (losing v p, hand) (losing v q, hand))) at (λ h. absurd (other h), λ ne. refl),
+          ))
 
     -- a step at a held place, by which its slot or how it is held changes, but not the words
     stirs : (s : State (Cell T) View) → Kept g key s → get_elem? s.views id ≡ some v → 0 < held v p → (k : ℕ) → 0 < k → (h : Option (Cell T))
@@ -121,91 +130,122 @@ module _ {T K : Type 0} (g : Ghosts T K) (key : K) where
     reaches one o is s r deep e small =
         let old = free_of s r id v e p (omega arith) (sole g key s r id v e p (omega arith)) within in
         let told : Tells g key v p old.value = record {
-          sound = old.sound; marked = old.marked id v e one;
+          sound = old.sound;
+          marked = old.marked id v e one;
           owing = record { counts = count_word (g.shape key) s.words; kept = r.kept; fits = λ c h. (r.noted id v e c h).2; above = r.lower id v e; owed = old.owed };
-        } in
-        (holding v p 3, takes p (Value old.value), old.stands,
+        } in (
+          holding v p 3,
+          takes p (Value old.value),
+          old.stands,
           again s (set s.homes p none) (set s.views id (holding v p 3)) (p + 1) (stirs s r e (omega arith) 3 (omega arith) none (λ h. absurd (omega arith)) (λ h. absurd (omega arith))),
-          λ q at. of_turn p q (λ q. (x : T) × IfSome o (λ k. Tells g k v q x) × Is (holding v p 3, (p, Value old.value) ∷ hand) (holding v q 3, (q, Value x) ∷ hand)) at (old.value, subst (λ z. IfSome z (λ k. Tells g k v p old.value)) (sym is) told, refl))
+          λ q at. of_turn p q (λ q. (x : T) × IfSome o (λ k. Tells g k v q x) × Is (holding v p 3, (p, Value old.value) ∷ hand) (holding v q 3, (q, Value x) ∷ hand)) at (old.value, subst (λ z. IfSome z (λ k. Tells g k v p old.value)) (sym is) told, refl),
+        )
 
     pub enters : held v p ≡ 2 → Allows (Kept g key) slots id (v, hand) (p + 1) (λ n. n) (entered (step slots (p + 1) 0 0 none) (v, hand))
-    enters two s r deep e small = (holding v p 3, takes p Empty, r.empty id v e p two,
-        again s (set s.homes p none) (set s.views id (holding v p 3)) (p + 1) (stirs s r e (omega arith) 3 (omega arith) none (λ h. absurd (omega arith)) (λ h. absurd (omega arith))),
-        λ q at. of_turn p q (λ q. Is (holding v p 3, (p, Empty) ∷ hand) (holding v q 3, (q, Empty) ∷ hand)) at refl)
+    enters two s r deep e small = (
+      holding v p 3,
+      takes p Empty,
+      r.empty id v e p two,
+      again s (set s.homes p none) (set s.views id (holding v p 3)) (p + 1) (stirs s r e (omega arith) 3 (omega arith) none (λ h. absurd (omega arith)) (λ h. absurd (omega arith))),
+      λ q at. of_turn p q (λ q. Is (holding v p 3, (p, Empty) ∷ hand) (holding v q 3, (q, Empty) ∷ hand)) at refl,
+    )
 
     pub clears : held v p ≡ 3 → Allows (Kept g key) slots id (v, (p, Empty) ∷ hand) (p + 1) (λ n. n) (emptied (step slots (p + 1) 0 0 none) (v, (p, Empty) ∷ hand))
-    clears three s r deep e small = (holding v p 2, gives, tt,
-        again s (set s.homes p (some Empty)) (set s.views id (holding v p 2)) (p + 1)
+    clears three s r deep e small = (
+      holding v p 2,
+      gives,
+      tt,
+      again s (set s.homes p (some Empty)) (set s.views id (holding v p 2)) (p + 1)
           (stirs s r e (omega arith) 2 (omega arith) (some Empty) (λ h. absurd (omega arith)) (λ h. set_here s.homes p (some Empty) (let d = r.deep in omega arith))),
-        λ q at. of_turn p q (λ q. Is (holding v p 2, hand) (holding v q 2, hand)) at refl)
+      λ q at. of_turn p q (λ q. Is (holding v p 2, hand) (holding v q 2, hand)) at refl,
+    )
 
     pub settles : (x : T) → held v p ≡ 3 → Pays g key v p x → Allows (Kept g key) slots id (v, (p, Value x) ∷ hand) (p + 1) (λ n. n) (settled (step slots (p + 1) 0 0 none) (v, (p, Value x) ∷ hand))
-    settles x three pays s r deep e small = (holding v p 1, gives, tt,
-        again s (set s.homes p (some (Value x))) (set s.views id (holding v p 1)) (p + 1)
+    settles x three pays s r deep e small = (
+      holding v p 1,
+      gives,
+      tt,
+      again s (set s.homes p (some (Value x))) (set s.views id (holding v p 1)) (p + 1)
           (stirs s r e (omega arith) 1 (omega arith) (some (Value x))
-            (λ h. (x, set_here s.homes p (some (Value x)) (let d = r.deep in omega arith), pays.sound, pays.owed (count_word (g.shape key) s.words) r.kept (λ c h. (r.noted id v e c h).2) (r.lower id v e), λ one. pays.marked))
-            (λ h. absurd (omega arith))),
-        λ q at. of_turn p q (λ q. Is (holding v p 1, hand) (holding v q 1, hand)) at refl)
+          (λ h. (x, set_here s.homes p (some (Value x)) (let d = r.deep in omega arith), pays.sound, pays.owed (count_word (g.shape key) s.words) r.kept (λ c h. (r.noted id v e c h).2) (r.lower id v e), λ one. pays.marked))
+          (λ h. absurd (omega arith))),
+      λ q at. of_turn p q (λ q. Is (holding v p 1, hand) (holding v q 1, hand)) at refl,
+    )
 
     pub gives_up : held v p ≡ 1 → Allows (Kept g key) slots id (v, hand) (p + 1) (λ n. 0) (λ n. given (step slots (p + 1) 0 0 none) (v, hand) 0)
-    gives_up one s r deep e small = let now = at_here v.held p 0 in (giving v p, keeps, tt,
-        touched g key s r id v (giving v p) (set s.words (p + 1) 0) s.homes p e (record {
-          self = record { root = refl; number = refl; made = refl; back = refl; shape = refl };
-          within = within;
-          wide = length-set s.words (p + 1) 0;
-          deep = refl;
-          counts = turn_counts s 0;
-          turns = turn_others s 0;
-          slots = λ q ne. refl;
-          helds = at_else v.held p 0;
-          others = sole g key s r id v e p (omega arith);
-          named = λ h. absurd (omega arith);
-          home = λ h. let old = free_of s r id v e p (omega arith) (sole g key s r id v e p (omega arith)) within in (old.value, old.stands, old.sound, old.owed, λ h. absurd (omega arith));
-          empty = λ h. absurd (omega arith);
-          notes = λ c h. let l = forget_left (λ c. not (is_spoken_for v.shape (at ((p, 0) ∷ v.held)) c)) v.notes c h in
-              (l.1, ap (λ sh. is_spoken_for sh (at ((p, 0) ∷ v.held)) c) (sym same_shape) ∙ shown (is_spoken_for v.shape (at ((p, 0) ∷ v.held)) c) l.0);
-          marks = λ c. inr refl;
-        }),
-        λ q at. of_turn p q (λ q. Is (giving v p, hand) (giving v q, hand)) at refl)
+    gives_up one s r deep e small = let now = at_here v.held p 0 in (
+      giving v p,
+      keeps,
+      tt,
+      touched g key s r id v (giving v p) (set s.words (p + 1) 0) s.homes p e (record {
+        self = record { root = refl; number = refl; made = refl; back = refl; shape = refl };
+        within = within;
+        wide = length-set s.words (p + 1) 0;
+        deep = refl;
+        counts = turn_counts s 0;
+        turns = turn_others s 0;
+        slots = λ q ne. refl;
+        helds = at_else v.held p 0;
+        others = sole g key s r id v e p (omega arith);
+        named = λ h. absurd (omega arith);
+        home = λ h. let old = free_of s r id v e p (omega arith) (sole g key s r id v e p (omega arith)) within in (old.value, old.stands, old.sound, old.owed, λ h. absurd (omega arith));
+        empty = λ h. absurd (omega arith);
+        notes = λ c h. let l = forget_left (λ c. not (is_spoken_for v.shape (at ((p, 0) ∷ v.held)) c)) v.notes c h in
+            (l.1, ap (λ sh. is_spoken_for sh (at ((p, 0) ∷ v.held)) c) (sym same_shape) ∙ shown (is_spoken_for v.shape (at ((p, 0) ∷ v.held)) c) l.0);
+        marks = λ c. inr refl;
+      }),
+      λ q at. of_turn p q (λ q. Is (giving v p, hand) (giving v q, hand)) at refl,
+    )
 
   module _ (slots id : ℕ) (v : View) (hand : List (ℕ × Cell T)) (c : ℕ) (i : ℕ) (is_slots : slots ≡ places_in (g.shape key) + 1) (at_i : i ≡ places_in (g.shape key) + 1 + c) (in_words : c < words_in (g.shape key)) (same_shape : v.shape ≡ g.shape key) where
     of_count : (q : ℕ) (P : ℕ → Type 0) → i ≡ slots + q → P c → P q
     of_count q P e x = let same : c ≡ q = omega arith in subst P same x
 
     pub reads : Allows (Kept g key) slots id (v, hand) i (λ n. n) (read (step slots i 0 0 none) (v, hand))
-    reads s r deep e small = let n : ℕ = slice_index s.words i in let now : n ≡ count_word (g.shape key) s.words c = ap (slice_index s.words) at_i in
-        (reading v c n, keeps, tt,
-          again s s.homes (set s.views id (reading v c n)) i (viewed g key s r id v (reading v c n) e (record {
-            self = record { root = refl; number = refl; made = refl; back = refl; shape = refl };
-            helds = λ q. refl;
-            notes = λ q h. ⊎_elim (λ same. inl same)
-                (λ t. inr ((let b = t.1 in omega arith), (ap (λ sh. is_spoken_for sh (held v) q) (sym same_shape) ∙ ap (is_spoken_for v.shape (held v)) t.1 ∙ t.0), t.2 ∙ ap suc (now ∙ ap (count_word (g.shape key) s.words) (sym t.1))))
-                (notes_of (is_spoken_for v.shape (at v.held) c) v.notes c (suc n) q);
-            lower = λ q. let l = r.lower id v e q in ⊎_elim (λ same. omega arith)
-                (λ t. let a = t.2 in let b : count_word (g.shape key) s.words q ≡ count_word (g.shape key) s.words c = ap (count_word (g.shape key) s.words) t.1 in omega arith)
-                (notes_of (is_marked v.shape c) v.marks c n q);
-            marked = λ q x owed m. ⊎_elim
-                (λ same. subst (λ f. g.marked key f q x) (sym same) (subst (λ (k : ℕ). g.marked key (put (mark v) c k) q x) (sym now) (g.marks key (count_word (g.shape key) s.words) (mark v) q x c r.kept owed m)))
-                (λ same. subst (λ f. g.marked key f q x) (sym same) m)
-                (marks_of (is_marked v.shape c) v.marks c n);
-          })),
-          λ q at. of_count q (λ q. Is (reading v c n, hand) (reading v q n, hand)) at refl)
+    reads s r deep e small = let n : ℕ = slice_index s.words i in let now : n ≡ count_word (g.shape key) s.words c = ap (slice_index s.words) at_i in (
+      reading v c n,
+      keeps,
+      tt,
+      again s s.homes (set s.views id (reading v c n)) i (viewed g key s r id v (reading v c n) e (record {
+        self = record { root = refl; number = refl; made = refl; back = refl; shape = refl };
+        helds = λ q. refl;
+        notes = λ q h. ⊎_elim (λ same. inl same)
+            (λ t. inr ((let b = t.1 in omega arith), (ap (λ sh. is_spoken_for sh (held v) q) (sym same_shape) ∙ ap (is_spoken_for v.shape (held v)) t.1 ∙ t.0), t.2 ∙ ap suc (now ∙ ap (count_word (g.shape key) s.words) (sym t.1))))
+            (notes_of (is_spoken_for v.shape (at v.held) c) v.notes c (suc n) q);
+        lower = λ q. let l = r.lower id v e q in ⊎_elim (λ same. omega arith)
+            (λ t. let a = t.2 in let b : count_word (g.shape key) s.words q ≡ count_word (g.shape key) s.words c = ap (count_word (g.shape key) s.words) t.1 in omega arith)
+            (notes_of (is_marked v.shape c) v.marks c n q);
+        marked = λ q x owed m. ⊎_elim
+            (λ same. subst (λ f. g.marked key f q x) (sym same) (subst (λ (k : ℕ). g.marked key (put (mark v) c k) q x) (sym now) (g.marks key (count_word (g.shape key) s.words) (mark v) q x c r.kept owed m)))
+            (λ same. subst (λ f. g.marked key f q x) (sym same) m)
+            (marks_of (is_marked v.shape c) v.marks c n);
+      })),
+      λ q at. of_count q (λ q. Is (reading v c n, hand) (reading v q n, hand)) at refl,
+    )
 
     pub writes : (n : ℕ) → Writes g key v c n → Allows (Kept g key) slots id (v, hand) i (λ m. n) (λ m. written (step slots i n 0 none) (v, hand) n)
     writes n t s r deep e small = (writing v c n, keeps, tt, wrote g key s r id v c n i e at_i t, λ q at. of_count q (λ q. Is (writing v c n, hand) (writing v q n, hand)) at refl)
 
   module _ (slots id : ℕ) (v : View) (hand : List (ℕ × Cell T)) where
     pub looks : Allows (Kept g key) slots id (v, hand) 0 (λ n. n) (looked (step slots 0 0 0 none) (v, hand))
-    looks s r deep e small = let n : ℕ = slice_index s.words 0 in (looking v n, keeps, tt,
-        again s s.homes (set s.views id (looking v n)) 0 (viewed g key s r id v (looking v n) e
+    looks s r deep e small = let n : ℕ = slice_index s.words 0 in (
+      looking v n,
+      keeps,
+      tt,
+      again s s.homes (set s.views id (looking v n)) 0 (viewed g key s r id v (looking v n) e
           (record { self = record { root = refl; number = refl; made = refl; back = refl; shape = refl }; helds = λ q. refl; notes = λ c h. inl refl; lower = r.lower id v e; marked = λ q x o m. m })),
-        refl)
+      refl,
+    )
 
     pub raises : (n : ℕ) → Allows (Kept g key) slots id (v, hand) 0 (λ m. n) (λ m. raised (step slots 0 n 0 none) (v, hand) n)
-    raises n s r deep e small = (v, keeps, tt,
-        reworded g key (board g key s.words s.homes (set s.views id v))
+    raises n s r deep e small = (
+      v,
+      keeps,
+      tt,
+      reworded g key (board g key s.words s.homes (set s.views id v))
           (viewed g key s r id v v e (record { self = itself v; helds = λ q. refl; notes = λ c h. inl refl; lower = r.lower id v e; marked = λ q x o m. m }))
           (set s.words 0 n) (length-set s.words 0 n)
           (λ q. get_or-set_other s.words 0 (q + 1) n 0 (λ h. omega arith))
           (λ c. get_or-set_other s.words 0 (places_in (g.shape key) + 1 + c) n 0 (λ h. omega arith)),
-        refl)
+      refl,
+    )

@@ -1,13 +1,11 @@
 -- A pass after a step of its seat.
-use Rattle.std.proofs.Common.{◌≡◌, ◌≢◌, ℕ, ◌+◌, ◌<◌, List, [], ◌∷◌, refl, sym, ap, subst, ◌∙◌, arith}
+use Rattle.std.proofs.Common.{◌≡◌, ◌≢◌, ℕ, List, [], ◌∷◌, sym, ap, subst, ◌∙◌, arith}
 use Rattle.atomic_table.specs.Seated.{TableId}
 use Rattle.atomic_table.specs.Table.{Me}
 use Rattle.turn_table.specs.declared.cell.Cell.{Cell}
 use Rattle.turn_table.specs.declared.pass.Pass.{Pass}
 use Rattle.turn_table.specs.declared.view.Shape.{Shape}
 use Rattle.turn_table.specs.declared.view.View.{View}
-use Rattle.turn_table.specs.Shapes.{places_in, words_in}
-use Rattle.turn_table.specs.Views.{taking, losing}
 use Rattle.turn_table.specs.Passes.{only, view_of, IsSeated}
 use Rattle.turn_table.proofs.Lookups.{alike}
 

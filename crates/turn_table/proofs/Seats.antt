@@ -1,12 +1,11 @@
 -- The lines of the rule that speak of views alone, after one seat's view was changed.
-use Rattle.std.proofs.Common.{◌≡◌, ◌≢◌, ℕ, zero, suc, ◌+◌, ◌<◌, ◌≤◌, ◌==◌, ◌⊎◌, Bool, true, false, cond, List, [], ◌∷◌, length, set, refl, sym, ap, subst, ◌∙◌, inl, inr, ⊎_elim, arith, add_assoc, eq-zero-or-pos}
-use mathlib.Core.Option.{Option, some, none, some-injective, some-ne-none}
+use Rattle.std.proofs.Common.{◌≡◌, ◌≢◌, ℕ, zero, suc, ◌+◌, ◌<◌, ◌≤◌, ◌==◌, true, cond, List, [], ◌∷◌, length, set, refl, sym, ap, subst, ◌∙◌, inl, inr, ⊎_elim, arith}
+use mathlib.Core.Option.{some, some-injective, some-ne-none}
 use lib.ListN.{get_elem?}
-use Rattle.atomic_table.proofs.Lists.{at_set, set_here, set_else}
+use Rattle.atomic_table.proofs.Lists.{at_set}
 use Rattle.turn_table.specs.declared.view.Shape.{Shape}
 use Rattle.turn_table.specs.declared.view.View.{View}
 use Rattle.turn_table.specs.Rule.{Each, IsInUse, live, living}
-use Rattle.turn_table.proofs.Lookups.{set_there, alike}
 
 -- P of each seat but this one, and of this one's new view
 pub each_else : (vs : List View) (id : ℕ) (w : View) (P : View → Type 0) → ((j : ℕ) (u : View) → j ≢ id → get_elem? vs j ≡ some u → P u) → P w → Each (set vs id w) P
@@ -52,7 +51,9 @@ seats_same sh vs id v w e self r = record {
   numbered = λ i j u x ati atj root. let a = behind vs id v w e self i u ati in let b = behind vs id v w e self j x atj in
       let n = r.numbered i j a.0 b.0 a.1 b.1 (sym a.2.root ∙ root) in
       ((let m = a.2.made in let k = b.2.number in let h = n.0 in omega arith), λ rx. n.1 (sym b.2.root ∙ rx));
-  counted = λ j u at root. let a = behind vs id v w e self j u at in let c = r.counted j a.0 a.1 (sym a.2.root ∙ root) in
-      (a.2.number ∙ c.0, (let l = living_set vs id v w e in let lv : live w ≡ live v = ap (λ (n : ℕ). cond (n == 0) 0 1) self.number in
-          let lb : length u.back ≡ length a.0.back = ap length a.2.back in let m = a.2.made in let h = c.1 in omega arith));
+  counted = λ j u at root. let a = behind vs id v w e self j u at in let c = r.counted j a.0 a.1 (sym a.2.root ∙ root) in (
+    a.2.number ∙ c.0,
+    (let l = living_set vs id v w e in let lv : live w ≡ live v = ap (λ (n : ℕ). cond (n == 0) 0 1) self.number in
+        let lb : length u.back ≡ length a.0.back = ap length a.2.back in let m = a.2.made in let h = c.1 in omega arith),
+  );
 }

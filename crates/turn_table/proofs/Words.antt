@@ -1,22 +1,22 @@
 -- Steps that write a word which no turn hangs on: the stop word and the count words.
-use Rattle.std.proofs.Common.{◌≡◌, ◌≢◌, ℕ, zero, suc, ◌+◌, ◌<◌, ◌≤◌, ◌==◌, ◌⊎◌, ◌||◌, Bool, true, false, cond, ltb, ltb-true, lt-ltb, List, [], ◌∷◌, length, get_or, set, refl, sym, ap, subst, ◌∙◌, inl, inr, ⊎_elim, arith, eq-zero-or-pos, length-set, get_or-set_other}
+use Rattle.std.proofs.Common.{◌≡◌, ◌≢◌, ℕ, suc, ◌+◌, ◌<◌, ◌≤◌, ◌⊎◌, Bool, true, false, cond, ltb, ltb-true, lt-ltb, List, ◌∷◌, length, set, refl, sym, ap, subst, ◌∙◌, inl, inr, ⊎_elim, arith, length-set, get_or-set_other}
 use Rattle.std.proofs.lemmas.Grind.{get_or-set_at}
-use mathlib.Core.Option.{Option, some, none, some-injective, some-ne-none}
+use mathlib.Core.Option.{some, some-injective}
 use lib.ListN.{get_elem?}
 use Rattle.atomic_table.specs.Table.{State}
-use Rattle.atomic_table.proofs.Lists.{at_set, set_here, set_else}
+use Rattle.atomic_table.proofs.Lists.{set_else}
 use Rattle.turn_table.specs.declared.cell.Cell.{Cell}
-use Rattle.turn_table.specs.declared.cell.Cell.TheVariants.{Value, Empty, Room}
+use Rattle.turn_table.specs.declared.cell.Cell.TheVariants.{Empty}
 use Rattle.turn_table.specs.declared.tenant.Tenant.{Ghosts}
 use Rattle.turn_table.specs.declared.view.Shape.{Shape}
 use Rattle.turn_table.specs.declared.view.View.{View}
 use Rattle.turn_table.specs.Changes.{at, put}
 use Rattle.turn_table.specs.Shapes.{places_in, words_in, spoken, Speaks, is_marked}
 use Rattle.turn_table.specs.Views.{held, note, mark, is_spoken_for, writing}
-use Rattle.turn_table.specs.Rule.{turn_word, count_word, Each, IsInUse, living, HasRoom, IsHome, Kept}
+use Rattle.turn_table.specs.Rule.{turn_word, count_word, Each, IsHome, Kept}
 use Rattle.turn_table.specs.Steps.{Fits, Above}
 use Rattle.turn_table.proofs.Lookups.{alike, set_there, cond_here, cond_else, one_of, first_one, second_one}
-use Rattle.turn_table.proofs.Seats.{each, each_else, IsSelf, Seats, seats_same}
+use Rattle.turn_table.proofs.Seats.{each, each_else, seats_same}
 use Rattle.turn_table.proofs.Core.{board, seats_of, sole}
 
 -- a word that speaks of a held place: one of its two places is held
@@ -48,7 +48,10 @@ module _ {T K : Type 0} (g : Ghosts T K) (key : K) where
       let turned : turn_word s.words ≡ turn_word ws = (let back : turn_word ws ≡ turn_word s.words = λ i q. turns q i in sym back) in
       let counted : count_word (g.shape key) s.words ≡ count_word (g.shape key) ws = (let back : count_word (g.shape key) ws ≡ count_word (g.shape key) s.words = λ i c. counts c i in sym back) in
       record {
-        wide = wide ∙ r.wide; deep = r.deep; room = r.room; shaped = r.shaped;
+        wide = wide ∙ r.wide;
+        deep = r.deep;
+        room = r.room;
+        shaped = r.shaped;
         named = subst (λ (f : ℕ → ℕ). Each s.views (λ v. (p : ℕ) → 0 < held v p → (0 < v.number) × (f p ≡ v.number) × (p < places_in (g.shape key)))) turned r.named;
         apart = r.apart;
         home = subst (λ f. (p : ℕ) → p < places_in (g.shape key) → Each s.views (λ v. held v p < 2) → IsHome g key f s.views s.homes p) counted r.home;
@@ -56,7 +59,8 @@ module _ {T K : Type 0} (g : Ghosts T K) (key : K) where
         noted = subst (λ (f : ℕ → ℕ). Each s.views (λ v. (c : ℕ) → 0 < note v c → (c < words_in (g.shape key)) × (is_spoken_for (g.shape key) (held v) c ≡ true) × (note v c ≡ suc (f c)))) counted r.noted;
         lower = subst (λ (f : ℕ → ℕ). Each s.views (λ v. (c : ℕ) → mark v c ≤ f c)) counted r.lower;
         kept = subst (g.keeps key) counted r.kept;
-        numbered = r.numbered; counted = r.counted;
+        numbered = r.numbered;
+        counted = r.counted;
       }
 
   -- what a pass owes where it writes the count word c: it holds both places as out, has a note, the number does not fall, and the counts still keep what they keep
@@ -104,14 +108,14 @@ module _ {T K : Type 0} (g : Ghosts T K) (key : K) where
     silent : (p : ℕ) → held v p < 2 → (q : ℕ) → Speaks (g.shape key) q p → F q ≡ put F c n q
     silent p free q says = put_each (λ q m. Speaks (g.shape key) q p → F q ≡ m) F c n
         (λ says. let a = t.first in let b = t.second in
-            ⊎_elim (λ same. let h : held v (spoken (g.shape key) c).0 ≡ held v p = ap (held v) same in absurd (omega arith)) (λ same. let h : held v (spoken (g.shape key) c).1 ≡ held v p = ap (held v) same in absurd (omega arith)) says.1)
+        ⊎_elim (λ same. let h : held v (spoken (g.shape key) c).0 ≡ held v p = ap (held v) same in absurd (omega arith)) (λ same. let h : held v (spoken (g.shape key) c).1 ≡ held v p = ap (held v) same in absurd (omega arith)) says.1)
         (λ q ne says. refl) q says
 
     marked_on : (p : ℕ) (x : T) → g.owes key (put F c n) p x → g.marked key (mark v) p x → g.marked key (mark w) p x
     marked_on p x owed m = ⊎_elim
         (λ same. subst (λ f. g.marked key f p x) (sym same)
-            (let here : put F c n c ≡ n = cond_here c c n (F c) refl in
-              subst (λ (k : ℕ). g.marked key (put (mark v) c k) p x) here (g.marks key (put F c n) (mark v) p x c new_kept owed m)))
+        (let here : put F c n c ≡ n = cond_here c c n (F c) refl in
+        subst (λ (k : ℕ). g.marked key (put (mark v) c k) p x) here (g.marks key (put F c n) (mark v) p x c new_kept owed m)))
         (λ same. subst (λ f. g.marked key f p x) (sym same) m)
         (marks_of (is_marked v.shape c) v.marks c n)
 
@@ -126,11 +130,14 @@ module _ {T K : Type 0} (g : Ghosts T K) (key : K) where
     written_home p within free =
         let mine : held v p < 2 = free id w (set_there s.views id v w e) in
         let old = r.home p within (λ j u at. alike j id
-            (λ me. let u_v : v ≡ u = some-injective v u (sym e ∙ ap (λ k. get_elem? s.views k) (sym me) ∙ at) in subst (λ k. held k p < 2) u_v mine)
-            (λ other. free j u (set_else s.views id j w other ∙ at))) in
+        (λ me. let u_v : v ≡ u = some-injective v u (sym e ∙ ap (λ k. get_elem? s.views k) (sym me) ∙ at) in subst (λ k. held k p < 2) u_v mine)
+        (λ other. free j u (set_else s.views id j w other ∙ at))) in
         let owed : g.owes key (put F c n) p old.value = g.stays key F (put F c n) p old.value (silent p mine) rise old.owed in
         record {
-          value = old.value; stands = old.stands; sound = old.sound; owed = owed;
+          value = old.value;
+          stands = old.stands;
+          sound = old.sound;
+          owed = owed;
           marked = each s.views id w (λ u. held u p ≡ 1 → g.marked key (mark u) p old.value) old.marked
               (λ one. marked_on p old.value owed (old.marked id v e one));
         }
@@ -152,10 +159,10 @@ module _ {T K : Type 0} (g : Ghosts T K) (key : K) where
     lower_here : (q : ℕ) → mark w q ≤ put F c n q
     lower_here q = ⊎_elim
         (λ same. let m : mark w q ≡ put (mark v) c n q = ap (λ (f : ℕ → ℕ). f q) same in
-            subst (λ k. k ≤ put F c n q) (sym m)
-              (alike q c
-                (λ h. let a = cond_here q c n (mark v q) h in let b = cond_here q c n (F q) h in omega arith)
-                (λ h. let a = cond_else q c n (mark v q) h in let b = cond_else q c n (F q) h in let l = r.lower id v e q in omega arith)))
+        subst (λ k. k ≤ put F c n q) (sym m)
+        (alike q c
+        (λ h. let a = cond_here q c n (mark v q) h in let b = cond_here q c n (F q) h in omega arith)
+        (λ h. let a = cond_else q c n (mark v q) h in let b = cond_else q c n (F q) h in let l = r.lower id v e q in omega arith)))
         (λ same. let m : mark w q ≡ mark v q = ap (λ (f : ℕ → ℕ). f q) same in let l = r.lower id v e q in let up = rise q in omega arith)
         (marks_of (is_marked v.shape c) v.marks c n)
 

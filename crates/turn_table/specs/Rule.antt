@@ -2,7 +2,7 @@
 --
 -- Words: 0 is the stop word, p + 1 the turn word of the place p, and places + 1 + c the count word c.
 -- Slots: slot p is that of the place p, and the last one holds the room in which the values are gathered.
-use Rattle.std.specs.Prelude.{◌≡◌, ℕ, zero, suc, ◌+◌, ◌<◌, ◌≤◌, ◌⊎◌, ◌==◌, Bool, true, false, cond, List, [], ◌∷◌, length, slice_index, vec_len, vec_capacity}
+use Rattle.std.specs.Prelude.{◌≡◌, ℕ, suc, ◌+◌, ◌<◌, ◌≤◌, ◌⊎◌, ◌==◌, true, cond, List, [], ◌∷◌, length, slice_index, vec_len, vec_capacity}
 use mathlib.Core.Option.{Option, some}
 use lib.ListN.{get_elem?}
 use Rattle.atomic_table.specs.Table.{State}

@@ -7,7 +7,7 @@ use Rattle.turn_table.specs.declared.cell.Cell.TheVariants.{Value, Empty}
 use Rattle.turn_table.specs.declared.tenant.Tenant.{Ghosts}
 use Rattle.turn_table.specs.declared.view.View.{View}
 use Rattle.turn_table.specs.Changes.{put}
-use Rattle.turn_table.specs.Views.{held, note, mark, holding, taking, losing, giving, writing, reading, looking}
+use Rattle.turn_table.specs.Views.{note, mark, holding, taking, losing, giving, writing, reading, looking}
 
 -- each note is the number of the word in these counts
 abbrev pub Fits : View → (ℕ → ℕ) → Type 0

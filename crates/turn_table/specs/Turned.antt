@@ -1,10 +1,9 @@
 -- What contracts say of a table of turns.
-use Rattle.std.specs.Prelude.{◌≡◌, ℕ, ◌+◌}
+use Rattle.std.specs.Prelude.{ℕ}
 use Rattle.atomic_table.specs.Seated.{TableId}
 use Rattle.turn_table.specs.declared.pass.Pass.{Pass}
 use Rattle.turn_table.specs.declared.tenant.Tenant.{Ghosts}
 use Rattle.turn_table.specs.declared.turns.Turns.{Turns}
-use Rattle.turn_table.specs.declared.view.Shape.{Shape}
 use Rattle.turn_table.specs.Shapes.{places_in, words_in}
 use Rattle.turn_table.specs.Passes.{only, IsSeated}
 

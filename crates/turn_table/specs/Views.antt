@@ -1,5 +1,5 @@
 -- What a view says, and what a step makes of it.
-use Rattle.std.specs.Prelude.{◌≡◌, ℕ, zero, suc, ◌<◌, ◌-◌, Bool, true, false, cond, not, ◌||◌, ◌⊎◌, ltb, List, [], ◌∷◌, ◌++◌}
+use Rattle.std.specs.Prelude.{ℕ, suc, Bool, true, false, cond, not, ◌||◌, ltb, [], ◌∷◌}
 use Rattle.turn_table.specs.declared.view.Shape.{Shape}
 use Rattle.turn_table.specs.declared.view.View.{View}
 use Rattle.turn_table.specs.Changes.{at, forget}

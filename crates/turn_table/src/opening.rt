@@ -53,7 +53,6 @@ fn split_all<V: Tenant>(
 
 impl<V: Tenant> Turns<V> {
     ghost use Rattle.turn_table.specs.Rule.{AreHome};
-
     ghost use Rattle.turn_table.specs.Turned.{key_of, count_of, places_of, made_of, IsPassOf};
 
     /// A table of these values and count words, and as many passes as `seats` says. All values are at home.

@@ -59,14 +59,17 @@ impl<V: Tenant> Turns<V> {
     {
         let number = pass.number;
         let mut seat = pass.sit();
-        let found = self.board.table.shared.compare_exchange::<Try>(
-            &mut seat,
-            place as usize + 1,
-            0,
-            number,
-        );
+        let found = self
+            .board
+            .table
+            .shared
+            .compare_exchange::<Try>(&mut seat, place as usize + 1, 0, number);
         pass.rest(seat);
-        if found == 0 { Some(Turn { place }) } else { None }
+        if found == 0 {
+            Some(Turn { place })
+        } else {
+            None
+        }
     }
 
     // Takes the slot, reads its value and gives the slot back, empty.

@@ -1,7 +1,7 @@
-use Rattle.std.proofs.Common.{◌≡◌, ℕ, ◌++◌, ◌∷◌, [], List, length, reverse, vec_len, vec_capacity, sym, ap, subst, ◌∙◌, append-nil, append_assoc, arith, refl}
-use Rattle.turn_table.specs.declared.cell.Cell.TheVariants.{Value, Room}
-use Rattle.turn_table.specs.Cells.{valued, values_in, IsValue, IsRoom}
-use Rattle.turn_table.proofs.CellLists.{bare, same_snoc, values-valued, values-room, length-valued, valued_snoc, values-snoc, reverse-snoc}
+use Rattle.std.proofs.Common.{◌≡◌, ◌++◌, ◌∷◌, [], length, reverse, vec_len, vec_capacity, sym, ap, ◌∙◌, append-nil, append_assoc, arith}
+use Rattle.turn_table.specs.declared.cell.Cell.TheVariants.{Room}
+use Rattle.turn_table.specs.Cells.{valued, values_in}
+use Rattle.turn_table.proofs.CellLists.{bare, same_snoc, values-valued, length-valued, valued_snoc, values-snoc, reverse-snoc}
 use Rattle.turn_table.proofs.Hands.{same_room}
 use Rattle.turn_table.proofs.cell.empty.Goals as goal
 

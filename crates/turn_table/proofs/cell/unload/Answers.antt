@@ -1,4 +1,4 @@
-use Rattle.std.proofs.Common.{◌≡◌, ◌≢◌, ℕ, suc, ◌+◌, ◌<◌, ◌⊎◌, ◌∷◌, ◌++◌, [], false, length, get_or, set, sym, ap, subst, ◌∙◌, inl, inr, ⊎_elim, arith, get_or-set_other, vec_len}
+use Rattle.std.proofs.Common.{◌≡◌, ℕ, false, get_or, set, sym, ap, subst, ◌∙◌, inl, inr, ⊎_elim, arith, get_or-set_other}
 use Rattle.std.specs.Slots.{slots_items, slots_filled}
 use mathlib.Core.Option.{some, some-injective}
 use lib.ListN.{get_elem?}
@@ -28,6 +28,6 @@ loop-p-preserved g c =
       values = λ q y at. ⊎_elim
           (λ old. inv.values q y old)
           (λ new. let ok = c.loop-p.room.ok.0 in let b = inv.count in let here : q ≡ p = (let n = new.1 in omega arith) in
-            ap (get_elem? (slots_items c.args.closed.slots)) here ∙ sym (ap (λ l. get_elem? l p) inv.items) ∙ c.take-in-loop-p.ensures.value ∙ ap some (c.into_value.ensures ∙ ap (λ x. Value x) new.0))
+          ap (get_elem? (slots_items c.args.closed.slots)) here ∙ sym (ap (λ l. get_elem? l p) inv.items) ∙ c.take-in-loop-p.ensures.value ∙ ap some (c.into_value.ensures ∙ ap (λ x. Value x) new.0))
           (at_end c.loop-p.room.items c.into_value.result y q (ap (λ l. get_elem? l q) (sym c.push_reserved.ensures.items) ∙ at));
     }

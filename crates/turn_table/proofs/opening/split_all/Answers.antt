@@ -1,4 +1,4 @@
-use Rattle.std.proofs.Common.{◌≡◌, ◌<◌, ap, ◌∙◌, arith}
+use Rattle.std.proofs.Common.{ap, arith}
 use Rattle.atomic_table.specs.Table.{Me}
 use Rattle.turn_table.specs.declared.view.View.{View}
 use Rattle.turn_table.proofs.Passing.{splits}

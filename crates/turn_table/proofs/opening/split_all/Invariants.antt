@@ -1,4 +1,4 @@
-use Rattle.std.proofs.Common.{◌≡◌, ◌+◌, ◌≤◌, length, All, true, [], vec_len, vec_capacity}
+use Rattle.std.proofs.Common.{◌≡◌, ◌≤◌, All, [], vec_len, vec_capacity}
 use Rattle.turn_table.specs.Passes.{IsSeated, IsNew}
 use Rattle.turn_table.specs.Views.{rooted}
 use Rattle.turn_table.proofs.opening.split_all.Given as goal

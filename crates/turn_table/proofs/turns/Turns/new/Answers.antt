@@ -1,4 +1,4 @@
-use Rattle.std.proofs.Common.{◌≡◌, ℕ, ◌+◌, ◌++◌, ◌∷◌, [], true, length, vec_len, slice_index, replicate, sym, ap, subst, ◌∙◌, arith, length-append}
+use Rattle.std.proofs.Common.{◌+◌, ◌++◌, replicate, sym, ap, subst, ◌∙◌, arith}
 use Rattle.turn_table.specs.Cells.{AreCells, values_in}
 use Rattle.turn_table.specs.Shapes.{places_in}
 use Rattle.turn_table.proofs.CellLists.{opened, refilled, values_back, length_cells}
@@ -7,8 +7,8 @@ use Rattle.turn_table.proofs.turns.Turns.new.Goals as goal
 pub new-requires : goal.new-requires
 new-requires g c = let ok = c.args.values.ok.0 in let h = c.requires.values.places in
     opened g.V.Tenant c.args.about.now c.args.values.items c.fill.new.cells.items c.as_slice-2.result.now c.args.counts.items c.len-places.result c.fill.ensures
-      (c.as_slice-2.ensures.value ∙ c.in-Ok.ensures ∙ ap (λ l. replicate (c.len-places.result + 1) 0 ++ l) c.as_slice.ensures.value)
-      (let a = c.len-places.ensures in omega arith) (let k = c.args.counts.ok.0 in let w = c.requires.words in omega arith) c.requires.values
+    (c.as_slice-2.ensures.value ∙ c.in-Ok.ensures ∙ ap (λ l. replicate (c.len-places.result + 1) 0 ++ l) c.as_slice.ensures.value)
+    (let a = c.len-places.ensures in omega arith) (let k = c.args.counts.ok.0 in let w = c.requires.words in omega arith) c.requires.values
 
 pub empty-requires : goal.empty-requires
 empty-requires g c = subst (λ l. AreCells l (values_in l)) (sym c.in-Err.ensures.err) (refilled c.fill.new.cells.items c.args.values.items c.fill.ensures)

@@ -1,4 +1,4 @@
-use Rattle.std.proofs.Common.{◌≡◌, ℕ, ◌+◌, ◌==◌, [], List, refl, sym, ap, ◌∙◌}
+use Rattle.std.proofs.Common.{◌≡◌, ℕ, ◌+◌, ◌==◌, [], refl, ap, ◌∙◌}
 use mathlib.Core.Option.{none}
 use prog.Atomic.{either}
 use Rattle.atomic_table.specs.Table.{step, Me}
@@ -24,13 +24,12 @@ compare_exchange-found-requires g c =
     let z = c.args.self.now.board.table.shared.table_id in
     let key = c.args.self.now.board.table.shared.key in
     let place = c.args.place in let v = view_of c.args.pass.now in
-    let shape = g.V.Tenant.shape key in
-    (
+    let shape = g.V.Tenant.shape key in (
       c.sit-seat.ensures.table ∙ own.table,
       turn_within z shape c.args.pass.now place own c.requires.place,
       from (Kept g.V.Tenant key) z.slots c.sit-seat.result.id (place + 1) (λ n. either (n == 0) c.args.pass.now.number n) (λ me. tried (step z.slots (place + 1) 0 c.args.pass.now.number none) me)
-        c.sit-seat.result.me (v, []) c.sit-seat.ensures.me
-        (tries g.V.Tenant key z.slots c.sit-seat.result.id v [] place c.requires.place own.shaped
+          c.sit-seat.result.me (v, []) c.sit-seat.ensures.me
+          (tries g.V.Tenant key z.slots c.sit-seat.result.id v [] place c.requires.place own.shaped
           c.args.pass.now.number own.lives own.number c.requires.free),
     )
 
@@ -41,11 +40,11 @@ rest-requires g c = let told = c.compare_exchange-found.ensures.2 c.args.place r
 pub returns-then-found-eq0-clause-pass : goal.returns-then-found-eq0-clause-pass
 returns-then-found-eq0-clause-pass g c = let told = c.compare_exchange-found.ensures.2 c.args.place refl in
     reseated_by _ _ c.args.pass.now c.rest.new.self c.compare_exchange-found.new.seat.me (taking (view_of c.args.pass.now) c.args.place) [] c.requires.pass
-      (c.rest.ensures.table ∙ c.compare_exchange-found.ensures.0 ∙ c.sit-seat.ensures.table ∙ c.requires.pass.table) c.rest.ensures.views (c.rest.ensures.number ∙ c.sit-seat.ensures.number)
-      (told.0 c.if-found-eq0.true ∙ ap (after_taking c.args.place) c.sit-seat.ensures.me) refl refl
+    (c.rest.ensures.table ∙ c.compare_exchange-found.ensures.0 ∙ c.sit-seat.ensures.table ∙ c.requires.pass.table) c.rest.ensures.views (c.rest.ensures.number ∙ c.sit-seat.ensures.number)
+    (told.0 c.if-found-eq0.true ∙ ap (after_taking c.args.place) c.sit-seat.ensures.me) refl refl
 
 pub returns-else-found-eq0-clause-pass : goal.returns-else-found-eq0-clause-pass
 returns-else-found-eq0-clause-pass g c = let told = c.compare_exchange-found.ensures.2 c.args.place refl in
     reseated_by _ _ c.args.pass.now c.rest.new.self c.compare_exchange-found.new.seat.me (losing (view_of c.args.pass.now) c.args.place) [] c.requires.pass
-      (c.rest.ensures.table ∙ c.compare_exchange-found.ensures.0 ∙ c.sit-seat.ensures.table ∙ c.requires.pass.table) c.rest.ensures.views (c.rest.ensures.number ∙ c.sit-seat.ensures.number)
-      (told.1 c.if-found-eq0.false ∙ ap (after_losing c.args.place) c.sit-seat.ensures.me) refl refl
+    (c.rest.ensures.table ∙ c.compare_exchange-found.ensures.0 ∙ c.sit-seat.ensures.table ∙ c.requires.pass.table) c.rest.ensures.views (c.rest.ensures.number ∙ c.sit-seat.ensures.number)
+    (told.1 c.if-found-eq0.false ∙ ap (after_losing c.args.place) c.sit-seat.ensures.me) refl refl
