@@ -1,0 +1,4 @@
+pub mod Balls
+pub mod Crossing
+pub mod CrossingLaws
+pub mod Post

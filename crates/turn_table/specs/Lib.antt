@@ -1,0 +1,9 @@
+pub mod Cells
+pub mod Changes
+pub mod Lending
+pub mod Passes
+pub mod Rule
+pub mod Shapes
+pub mod Steps
+pub mod Turned
+pub mod Views
