@@ -1,0 +1,102 @@
+-- The place of a number in a list of numbers that rise, and the numbers that pairs give.
+use Rattle.std.proofs.Common.{ℕ, zero, suc, ◌≡◌, ◌+◌, ◌-◌, ◌<◌, ◌≤◌, ◌∙◌, sym, ap, subst, refl, inl, inr, if◌then◌else◌, ◌==◌, List, [], ◌∷◌, ◌++◌, length, set, get_or, Some, slice_get, Ok, Err, arith}
+use Rattle.std.specs.List.{Contains}
+use Rattle.std.specs.List.Sorted.{IsStrictlyIncreasing, IsBinarySearchResult}
+use Rattle.std.specs.Ordering.{nat_cmp}
+use Rattle.std.proofs.lemmas.List.Sorted.{searched}
+use Rattle.std.proofs.lemmas.Bool.{cases_lt, cases_order, eq-eqb, ne_eqb}
+use Rattle.std.proofs.lemmas.Option.{slice_get-get_or, slice_get_within, get_or_from_slice_get}
+use Rattle.barrier_window.specs.Crossings.{latest, latest_of}
+
+-- ---- places
+
+rises_by : (xs : List ℕ) (i n : ℕ) → IsStrictlyIncreasing xs → i + n < length xs → get_or xs i 0 + n ≤ get_or xs (i + n) 0
+rises_by xs i zero rising within = let e : i + 0 ≡ i = omega arith in rw e (omega arith)
+rises_by xs i (suc n) rising within =
+    let rest = rises_by xs i n rising (omega arith) in
+    let e : i + suc n ≡ (i + n) + 1 = omega arith in
+    let step = rising (i + n) (omega arith) in
+    rw e (omega arith)
+
+rises : (xs : List ℕ) → IsStrictlyIncreasing xs → (i j : ℕ) → i ≤ j → j < length xs → get_or xs i 0 + (j - i) ≤ get_or xs j 0
+rises xs rising i j le within = let e : i + (j - i) ≡ j = omega arith in subst (λ k. get_or xs i 0 + (j - i) ≤ get_or xs k 0) e (rises_by xs i (j - i) rising (omega arith))
+
+rises_weakly : (xs : List ℕ) → IsStrictlyIncreasing xs → (i j : ℕ) → i ≤ j → j < length xs → get_or xs i 0 ≤ get_or xs j 0
+rises_weakly xs rising i j le within = let more = rises xs rising i j le within in omega arith
+
+-- what a search finds
+pub place_is : (xs : List ℕ) (x i : ℕ) → IsStrictlyIncreasing xs → IsBinarySearchResult (λ y. nat_cmp y x) xs (Ok i) → slice_get xs i ≡ Some x
+place_is xs x i rising position =
+    let s = searched xs x (Ok i) position (rises_weakly xs rising) in
+    slice_get-get_or xs i 0 s.0 ∙ ap Some s.1
+
+-- it finds whatever is there
+pub place_found : (xs : List ℕ) (x i : ℕ) → IsStrictlyIncreasing xs → IsBinarySearchResult (λ y. nat_cmp y x) xs (Err i) → Contains xs x → ⊥
+place_found xs x i rising position (k, within, at) =
+    let s = searched xs x (Err i) position (rises_weakly xs rising) in
+    let is : get_or xs k 0 ≡ x = get_or_from_slice_get xs k x 0 (slice_get-get_or xs k x within ∙ ap Some at) in
+    elim (cases_lt k i) [ inl low ↦ let less = s.1 k low in omega arith | inr high ↦ let more = s.2 k high within in omega arith ]
+
+-- and each number has one place
+pub one_place : (xs : List ℕ) (x i j : ℕ) → IsStrictlyIncreasing xs → slice_get xs i ≡ Some x → slice_get xs j ≡ Some x → i ≡ j
+one_place xs x i j rising at_i at_j =
+    let in_i = slice_get_within xs i x at_i in
+    let in_j = slice_get_within xs j x at_j in
+    let is_i = get_or_from_slice_get xs i x 0 at_i in
+    let is_j = get_or_from_slice_get xs j x 0 at_j in
+    elim (cases_order i j) [
+      | inl e ↦ e
+      | inr less ↦ elim less [
+        | inl low ↦ let more = rises xs rising i j (omega arith) in_j in absurd (omega arith)
+        | inr high ↦ let more = rises xs rising j i (omega arith) in_i in absurd (omega arith)
+      ]
+    ]
+
+-- ---- one more pair
+
+latest_same : (ps : List (ℕ × ℕ)) (p : ℕ × ℕ) (n : ℕ) → latest (ps ++ p ∷ []) p.0 n ≡ p.1
+latest_same [] p n = let t = eq-eqb p.0 p.0 refl in rw t refl
+latest_same (q ∷ ps) p n = latest_same ps p (if q.0 == p.0 then q.1 else n)
+
+latest_other : (ps : List (ℕ × ℕ)) (p : ℕ × ℕ) (c n : ℕ) → (p.0 ≡ c → ⊥) → latest (ps ++ p ∷ []) c n ≡ latest ps c n
+latest_other [] p c n differ = let t = ne_eqb p.0 c differ in rw t refl
+latest_other (q ∷ ps) p c n differ = latest_other ps p c (if q.0 == c then q.1 else n) differ
+
+-- a pair of none of the channels gives nothing
+latest_of_others : (ps : List (ℕ × ℕ)) (p : ℕ × ℕ) (cs ns : List ℕ) → ((j : ℕ) → slice_get cs j ≡ Some p.0 → ⊥) → latest_of (ps ++ p ∷ []) cs ns ≡ latest_of ps cs ns
+latest_of_others ps p [] ns none = refl
+latest_of_others ps p (c ∷ cs) [] none = refl
+latest_of_others ps p (c ∷ cs) (n ∷ ns) none =
+    let head = latest_other ps p c n (λ e. none zero (ap Some (sym e))) in
+    let rest = latest_of_others ps p cs ns (λ j at. none (suc j) at) in
+    cc
+
+latest_of_put : (ps : List (ℕ × ℕ)) (p : ℕ × ℕ) (cs ns : List ℕ) (k : ℕ) → length ns ≡ length cs → slice_get cs k ≡ Some p.0 → ((j : ℕ) → slice_get cs j ≡ Some p.0 → j ≡ k)
+    → set (latest_of ps cs ns) k p.1 ≡ latest_of (ps ++ p ∷ []) cs ns
+latest_of_put ps p [] ns k each at one = absurd (cc)
+latest_of_put ps p (c ∷ cs) [] k each at one = absurd (omega arith)
+latest_of_put ps p (c ∷ cs) (n ∷ ns) zero each at one =
+    let is : c ≡ p.0 = cc in
+    let head : latest (ps ++ p ∷ []) c n ≡ p.1 = rw is (latest_same ps p n) in
+    let rest = latest_of_others ps p cs ns (λ j there. let e = one (suc j) there in absurd (omega arith)) in
+    cc
+latest_of_put ps p (c ∷ cs) (n ∷ ns) (suc k) each at one =
+    let head = latest_other ps p c n (λ e. let f = one zero (ap Some (sym e)) in absurd (omega arith)) in
+    let rest = latest_of_put ps p cs ns k (omega arith) at (λ j there. let e = one (suc j) there in omega arith) in
+    cc
+
+-- the number of one more pair is put in the place of its channel
+pub put_next : (ps : List (ℕ × ℕ)) (p : ℕ × ℕ) (cs ns : List ℕ) (k : ℕ) → IsStrictlyIncreasing cs → length ns ≡ length cs → slice_get cs k ≡ Some p.0 → set (latest_of ps cs ns) k p.1 ≡ latest_of (ps ++ p ∷ []) cs ns
+put_next ps p cs ns k rising each at = latest_of_put ps p cs ns k each at (λ j there. one_place cs p.0 j k rising there at)
+
+pub length-latest_of : (ps : List (ℕ × ℕ)) (cs ns : List ℕ) → length ns ≡ length cs → length (latest_of ps cs ns) ≡ length cs
+length-latest_of ps [] ns each = refl
+length-latest_of ps (c ∷ cs) [] each = absurd (omega arith)
+length-latest_of ps (c ∷ cs) (n ∷ ns) each = let rest = length-latest_of ps cs ns (omega arith) in omega arith
+
+-- no pair gives nothing
+pub latest_of_none : (cs ns : List ℕ) → length ns ≡ length cs → latest_of [] cs ns ≡ ns
+latest_of_none [] [] each = refl
+latest_of_none [] (n ∷ ns) each = absurd (omega arith)
+latest_of_none (c ∷ cs) [] each = absurd (omega arith)
+latest_of_none (c ∷ cs) (n ∷ ns) each = ap (λ l. n ∷ l) (latest_of_none cs ns (omega arith))

@@ -1,0 +1,3 @@
+pub mod BarrierFields
+pub mod Crossings
+pub mod Inside
