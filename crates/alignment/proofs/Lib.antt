@@ -1,0 +1,5 @@
+pub mod Joining
+pub mod Growing
+pub mod Tying
+pub mod Numbering
+pub mod Lawful
