@@ -3,3 +3,4 @@ pub mod Growing
 pub mod Tying
 pub mod Numbering
 pub mod Lawful
+pub mod Worked

@@ -13,8 +13,6 @@ mod groups;
 mod labels;
 pub mod laws;
 mod mappings;
-#[cfg(test)]
-mod tests;
 mod timelines;
 
 pub use labels::Mode;

@@ -67,13 +67,6 @@ impl Alignment {
     {
         self.lines[entity as usize]
     }
-
-    /// How many entities there are.
-    pub fn entities(&self) -> usize
-        ensures { result ≡ length self.now }
-    {
-        self.lines.len()
-    }
 }
 
 /// Gives each entity of the plan its timeline. `nets` has the innermost Net of each entity; only the
