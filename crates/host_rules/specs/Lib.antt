@@ -1,0 +1,6 @@
+pub mod Hosts
+pub mod Effects
+pub mod Sending
+pub mod Entries
+pub mod Hearing
+pub mod Reacting
