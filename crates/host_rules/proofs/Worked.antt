@@ -1,31 +1,34 @@
 -- Worked runs of two small networks, computed from the definitions.
-use Rattle.std.proofs.Common.{◌≡◌, ℕ, ◌+◌, ◌*◌, Bool, true, false, List, [], ◌∷◌, map, Some, None, refl}
+use Rattle.std.proofs.Common.{◌≡◌, ℕ, zero, suc, ◌+◌, ◌++◌, ◌*◌, Bool, true, false, List, [], ◌∷◌, map, Some, None, refl}
+use Rattle.std.specs.List.{filter}
 use Rattle.event_order.specs.declared.key.Key.{Key}
 use Rattle.event_order.specs.Order.{comes_before}
-use Rattle.event_order.specs.Machine.{all_kept}
+use Rattle.event_order.specs.Machine.{World, after, all_kept}
 use Rattle.sim_base.specs.declared.records.TcpConfig.{TcpConfig}
 use Rattle.sim_base.specs.declared.records.ClientRow.{ClientRow}
-use Rattle.sim_base.specs.declared.records.TcpState.TheVariants.{SynSent, SynReceived}
+use Rattle.sim_base.specs.declared.records.TcpState.{TcpState}
+use Rattle.sim_base.specs.declared.records.TcpState.TheVariants.{SynSent, SynReceived, Established, FinWait1, FinWait2, TimeWait, LastAck, Closed}
 use Rattle.sim_base.specs.declared.records.Reason.TheVariants.{Route as NoRoute, Link, Buffer}
 use Rattle.ip_blocks.specs.declared.block.Block.{Block}
 use Rattle.spf_routes.specs.declared.graph.Route.{Route}
 use Rattle.spf_routes.specs.declared.graph.Period.{Period}
 use Rattle.ssf_model.specs.declared.event.Entry.{Entry}
 use Rattle.ssf_model.specs.declared.event.Line.{Line}
-use Rattle.ssf_model.specs.declared.event.Line.TheVariants.{Sent, Dropped, Udp, Entered}
+use Rattle.ssf_model.specs.declared.event.Line.TheVariants.{Sent, Dropped, Udp, Entered, Delivered}
 use Rattle.ssf_model.specs.declared.plan.Plan.{Plan}
 use Rattle.ssf_model.specs.declared.plan.Mapping.{Mapping}
 use Rattle.ssf_model.specs.declared.builder.DraftEntity.{DraftEntity}
 use Rattle.ssf_model.specs.declared.builder.OutChannel.{OutChannel}
 use Rattle.ssf_model.specs.Drafts.{Draft, planned}
-use Rattle.ssf_model.specs.Run.{machine_of, run_entries}
+use Rattle.ssf_model.specs.Run.{States, machine_of, run_entries, entries_from, opening}
+use Rattle.ssf_model.specs.declared.event.Event.{Event}
 use Rattle.net_iface.specs.DropTail.{offered, after_offer}
 use Rattle.ip_layer.specs.Packets.{PacketFields}
 use Rattle.ip_layer.specs.Forwarding.{best_route, sent, received}
-use Rattle.tcp_clock.specs.Retransmission.{first_timeout}
-use Rattle.tcp_clock.specs.Congestion.{first_window}
-use Rattle.tcp_rules.specs.Clients.{opened}
-use Rattle.tcp_rules.specs.Servers.{listened}
+use Rattle.tcp_clock.specs.Retransmission.{first_timeout, sampled}
+use Rattle.tcp_clock.specs.Congestion.{first_window, grown}
+use Rattle.tcp_rules.specs.Clients.{opened, at_opening, at_syn_ack, sent as sent_out, data_stop, data_count, fin_sent, edge, measured, timing_at_send, deadline_at, at_later, at_plain, heard as heard_by, at_ack, at_new_ack, at_last_fin, at_client_timeout}
+use Rattle.tcp_rules.specs.Servers.{listened, at_start, at_data, kept_with, fin_with, added, at_kept, hole, at_end, at_last}
 use Rattle.tcp_rules.specs.Sessions.{connecting, accepting}
 use Rattle.traffic.specs.Progress.{at_first, next_server, after_next}
 use Rattle.traffic.specs.Starts.{drawn_start}
@@ -242,3 +245,46 @@ a_transfer_is_opened : net_run 1005000000 9 ≡
     ∷ []
 unfolding net_run machine_of comes_before planned starts_of drawn_start at_first host_reaction routes_at own_addresses is_down forwarded sending source_to best_route sent received offered after_offer next_server after_next arrived with_poke heard clock_wait least transfer_sockets next_transfer tcp_turn connecting opened first_timeout first_window tcp_arrived may_accept found accepting listened
 a_transfer_is_opened = refl
+
+-- The lines of sessions and of timers, up to the end of the transfer.
+trail : ℕ → World (States (Unit {0}) HostFields PacketFields) (Event PacketFields) → List Entry
+trail zero w = []
+trail (suc n) w =
+    let mappings : List Mapping = (planned {P = PacketFields} net_draft).mappings in
+    let next : World (States (Unit {0}) HostFields PacketFields) (Event PacketFields) = after (machine_of host_reaction mappings) 200000000000 all_kept w 1 in
+    entries_from host_reaction mappings 200000000000 all_kept w 1 ++ trail n next
+
+abbrev of_session : Line → Bool
+of_session (Sent interface next tcp bytes) = false
+of_session (Dropped reason tcp bytes) = false
+of_session line = true
+
+abbrev told : List Entry → List Line
+told [] = []
+told (e ∷ es) = filter of_session e.lines ++ told es
+
+abbrev client_enters : TcpState → Line
+client_enters state = Entered 10000 (address 5) 10 state
+
+abbrev server_enters : TcpState → Line
+server_enters state = Entered 10 (address 1) 10000 state
+
+abbrev server_delivers : ℕ → Line
+server_delivers bytes = Delivered 10 (address 1) 10000 bytes
+
+a_transfer_goes_to_its_end : told (trail 60 (opening (planned {P = PacketFields} net_draft))) ≡
+    client_enters SynSent
+    ∷ server_enters SynReceived
+    ∷ client_enters Established
+    ∷ server_enters Established
+    ∷ server_delivers 1000
+    ∷ client_enters FinWait1
+    ∷ server_delivers 500
+    ∷ server_enters LastAck
+    ∷ client_enters FinWait2
+    ∷ client_enters TimeWait
+    ∷ server_enters Closed
+    ∷ client_enters Closed
+    ∷ []
+unfolding trail machine_of comes_before planned starts_of drawn_start at_first host_reaction routes_at own_addresses is_down forwarded sending source_to best_route sent received offered after_offer next_server after_next arrived with_poke heard clock_wait least transfer_sockets next_transfer tcp_turn connecting opened first_timeout first_window tcp_arrived may_accept found accepting listened turned settled next_after at_opening at_syn_ack sent_out data_stop data_count fin_sent edge measured timing_at_send deadline_at sampled at_later at_plain heard_by at_ack at_new_ack grown at_last_fin at_start at_data kept_with fin_with added at_kept hole at_end at_last ticked timed_out due numbered at_client_timeout
+a_transfer_goes_to_its_end = refl
