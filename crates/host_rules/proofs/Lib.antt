@@ -1,1 +1,4 @@
+pub mod Listing
+pub mod Tables
+pub mod Giving
 mod Worked

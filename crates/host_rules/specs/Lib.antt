@@ -4,3 +4,4 @@ pub mod Sending
 pub mod Entries
 pub mod Hearing
 pub mod Reacting
+pub mod Limits
