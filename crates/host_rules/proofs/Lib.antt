@@ -5,4 +5,6 @@ pub mod Lawful
 pub mod Turns
 pub mod Sound
 pub mod Modest
+pub mod Starting
+pub mod Finding
 mod Worked

@@ -214,3 +214,12 @@ pub host_sound : KeepsValid IsHost IsPacket host_reaction
 unfolding host_reaction
 host_sound s i now wake ready =
     keeps_with s ready.ins ready.outs ready.timed ready.waits i (slice_get (roles s.rows) i) ready.wait now wake ready.is_valid ready.waiting refl ready.carries ready.time
+
+-- no event changes the rows and the starts
+pub rows_stay : (s : HostFields) (i now : ℕ) (wake : Wake PacketFields) → (host_reaction s i now wake).state.rows ≡ s.rows
+unfolding host_reaction
+rows_stay s i now wake = refl
+
+pub starts_stay : (s : HostFields) (i now : ℕ) (wake : Wake PacketFields) → (host_reaction s i now wake).state.starts ≡ s.starts
+unfolding host_reaction
+starts_stay s i now wake = refl

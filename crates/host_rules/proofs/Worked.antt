@@ -34,7 +34,9 @@ use Rattle.traffic.specs.Progress.{at_first, next_server, after_next}
 use Rattle.traffic.specs.Starts.{drawn_start}
 use Rattle.host_rules.specs.declared.rows.HostRows.{HostRows}
 use Rattle.host_rules.specs.declared.rows.HostPort.{HostPort}
-use Rattle.host_rules.specs.Hosts.{HostFields, first_host, starts_of}
+use Rattle.ssf_model.specs.declared.out.Written.TheVariants.{Channel}
+use Rattle.host_rules.specs.Hosts.{Stack, HostFields, first_stack, first_host, starts_of}
+use Rattle.host_rules.specs.Effects.{Effect, and_then}
 use Rattle.host_rules.specs.Sending.{routes_at, own_addresses, is_down, forwarded, sending, source_to}
 use Rattle.host_rules.specs.Entries.{found, numbered, due, least, settled}
 use Rattle.host_rules.specs.Hearing.{transfer_sockets, next_transfer, next_after, turned, udp_arrived, may_accept, tcp_arrived, arrived, timed_out}
@@ -288,3 +290,26 @@ a_transfer_goes_to_its_end : told (trail 60 (opening (planned {P = PacketFields}
     ∷ []
 unfolding trail machine_of comes_before planned starts_of drawn_start at_first host_reaction routes_at own_addresses is_down forwarded sending source_to best_route sent received offered after_offer next_server after_next arrived with_poke heard clock_wait least transfer_sockets next_transfer tcp_turn connecting opened first_timeout first_window tcp_arrived may_accept found accepting listened turned settled next_after at_opening at_syn_ack sent_out data_stop data_count fin_sent edge measured timing_at_send deadline_at sampled at_later at_plain heard_by at_ack at_new_ack grown at_last_fin at_start at_data kept_with fin_with added at_kept hole at_end at_last ticked timed_out due numbered at_client_timeout
 a_transfer_goes_to_its_end = refl
+
+-- Three packets offered at once to an interface with a buffer of 2,000 bytes: the second finds no room.
+abbrev tight_rows : HostRows
+tight_rows =
+    let rows : HostRows = sender_rows [] (period 0 (link_route ∷ []) ∷ []) in
+    record rows { ports = record (a_port 0 0 1 ((address 2, 2) ∷ []) []) { buffer = 2000 } ∷ [] }
+
+abbrev a_datagram : ℕ → PacketFields
+a_datagram bytes = record { src = address 1; dst = address 2; tcp = false; ttl = 64; src_port = 0; dst_port = 7; bytes = bytes; segment = None }
+
+three_sent : Effect
+three_sent =
+    let first : Stack = first_stack tight_rows in
+    and_then (sending tight_rows 0 (a_datagram 1500) first)
+        (λ second. and_then (sending tight_rows 0 (a_datagram 1500) second) (λ third. sending tight_rows 0 (a_datagram 500) third))
+
+what_finds_no_room_is_dropped : three_sent.lines ≡ Sent 0 (address 2) false 1500 ∷ Dropped Buffer false 1500 ∷ Sent 0 (address 2) false 500 ∷ []
+unfolding three_sent routes_at own_addresses is_down forwarded sending best_route sent offered after_offer at_first
+what_finds_no_room_is_dropped = refl
+
+what_finds_room_goes_out : three_sent.writes ≡ Channel 2 1500000 (a_datagram 1500) ∷ Channel 2 2000000 (a_datagram 500) ∷ []
+unfolding three_sent routes_at own_addresses is_down forwarded sending best_route sent offered after_offer at_first
+what_finds_room_goes_out = refl

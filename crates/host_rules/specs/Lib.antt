@@ -5,3 +5,4 @@ pub mod Entries
 pub mod Hearing
 pub mod Reacting
 pub mod Limits
+pub mod Between

@@ -7,6 +7,7 @@
 //! `specs/Limits.antt` (its valid states).
 #![tactic(auto)]
 
+pub mod laws;
 mod rows;
 
 pub use rows::{HostPort, HostRows};
