@@ -1,6 +1,6 @@
 -- The first session between two ends is the one that was accepted, where there is one, and else the one that was opened.
-use Rattle.std.proofs.Common.{◌≡◌, ◌⊎◌, ℕ, ◌+◌, ◌*◌, ◌<◌, ◌≤◌, Bool, true, false, ◌&&◌, not, cond, Option, Some, None, List, [], ◌∷◌, length, nat_eq, refl, ap, subst, sym, arith}
-use Rattle.std.specs.List.{find, list_any, sum}
+use Rattle.std.proofs.Common.{◌≡◌, ℕ, ◌*◌, ◌≤◌, Bool, true, false, ◌&&◌, not, cond, Option, Some, None, List, [], ◌∷◌, length, nat_eq, refl, ap, sym, arith}
+use Rattle.std.specs.List.{find, sum}
 use Rattle.std.specs.Option.{option_or}
 use Rattle.std.proofs.lemmas.Bool.{eqb-true, eq-eqb}
 use Rattle.std.proofs.lemmas.List.Sums.{sum_by-le}
@@ -8,7 +8,7 @@ use Rattle.ssf_model.specs.Reaction.{Each}
 use Rattle.host_rules.specs.declared.rows.HostRows.{HostRows}
 use Rattle.host_rules.specs.Hosts.{Sockets, EntryFields, Stack}
 use Rattle.host_rules.specs.Entries.{same_sockets, found, is_accepted}
-use Rattle.host_rules.specs.Between.{is_accepted_between, is_opened_between, accepted_between, opened_between}
+use Rattle.host_rules.specs.Between.{is_accepted_between, accepted_between, opened_between}
 use Rattle.host_rules.specs.Limits.{EachPair, AreRows, MostTransfers, IsEarlier, IsStack}
 
 and_left : (a b : Bool) → (a && b) ≡ true → a ≡ true
@@ -36,9 +36,9 @@ same_through a b c e f =
     let f2 = and_right (nat_eq b.own c.own) _ f in
     let f3 = and_right (nat_eq b.own_port c.own_port) _ f2 in
     and_both _ _ (tied a.own b.own c.own (and_left _ _ e) (and_left _ _ f))
-        (and_both _ _ (tied a.own_port b.own_port c.own_port (and_left _ _ e2) (and_left _ _ f2))
-          (and_both _ _ (tied a.peer b.peer c.peer (and_left _ _ e3) (and_left _ _ f3))
-            (tied a.peer_port b.peer_port c.peer_port (and_right (nat_eq a.peer c.peer) _ e3) (and_right (nat_eq b.peer c.peer) _ f3))))
+    (and_both _ _ (tied a.own_port b.own_port c.own_port (and_left _ _ e2) (and_left _ _ f2))
+    (and_both _ _ (tied a.peer b.peer c.peer (and_left _ _ e3) (and_left _ _ f3))
+    (tied a.peer_port b.peer_port c.peer_port (and_right (nat_eq a.peer c.peer) _ e3) (and_right (nat_eq b.peer c.peer) _ f3))))
 
 -- behind a session that was opened none between the same ends was accepted
 none_behind : (sockets : Sockets) (x : EntryFields) (xs : List EntryFields) → same_sockets x.sockets sockets ≡ true → is_accepted x ≡ false → Each (IsEarlier x) xs
@@ -63,7 +63,7 @@ found_first sockets (x ∷ xs) order = first_case (same_sockets x.sockets socket
     first_case : (b a : Bool) → same_sockets x.sockets sockets ≡ b → is_accepted x ≡ a
         → find (λ (y : EntryFields). same_sockets y.sockets sockets) xs ≡ option_or (accepted_between sockets xs) (opened_between sockets xs)
         → cond b (Some x) (find (λ (y : EntryFields). same_sockets y.sockets sockets) xs)
-          ≡ option_or (cond (b && a) (Some x) (accepted_between sockets xs)) (cond (b && not a) (Some x) (opened_between sockets xs))
+        ≡ option_or (cond (b && a) (Some x) (accepted_between sockets xs)) (cond (b && not a) (Some x) (opened_between sockets xs))
     first_case true true e f rest = refl
     first_case true false e f rest =
         let none = none_behind sockets x xs e f order.0 in
@@ -78,4 +78,4 @@ most_opened clients servers given giving total opened most e f within below =
 pub opened_few : (rows : HostRows) (s : Stack) → AreRows rows → IsStack rows s → s.opened ≤ MostTransfers
 opened_few rows s ranges is =
     most_opened (length rows.clients) (length rows.servers) (length s.apps.given) (length s.apps.servers) (sum s.apps.given) s.opened
-        ranges.transfers is.given (ap (λ xs. length xs) is.servers) (sum_by-le (λ (x : ℕ). x) (length s.apps.servers) s.apps.given is.progress.given) is.opened
+    ranges.transfers is.given (ap (λ xs. length xs) is.servers) (sum_by-le (λ (x : ℕ). x) (length s.apps.servers) s.apps.given is.progress.given) is.opened

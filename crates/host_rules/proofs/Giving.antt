@@ -1,13 +1,11 @@
 -- What a host keeps stays in range when a client session is given its next server.
-use Rattle.std.proofs.Common.{◌≡◌, ◌⊎◌, ℕ, ◌+◌, ◌-◌, ◌*◌, ◌<◌, ◌≤◌, Bool, true, false, ◌&&◌, ◌||◌, not, cond, Option, Some, None, List, [], ◌∷◌, ◌++◌, length, map, nat_eq, nat_lt, refl, ap, subst, sym, inl, inr, arith, if◌then◌else◌}
-use Rattle.std.specs.Prelude.{slice_get, slice_set, slice_index}
+use Rattle.std.proofs.Common.{◌≡◌, ℕ, ◌+◌, ◌*◌, ◌<◌, ◌≤◌, Bool, true, false, ◌&&◌, ◌||◌, cond, Option, Some, None, List, [], ◌∷◌, ◌++◌, length, nat_eq, nat_lt, refl, ap, subst, sym, arith, if◌then◌else◌}
+use Rattle.std.specs.Prelude.{slice_set, slice_index}
 use Rattle.std.specs.List.{count_by, sum}
-use Rattle.std.specs.Option.{ForSome}
 use Rattle.std.proofs.lemmas.Bool.{eqb-true, lt-ltb}
 use Rattle.std.proofs.lemmas.List.{length-append, length-set}
 use Rattle.std.proofs.lemmas.List.Sums.{sum_by-append, sum_by-set, sum_by-le}
 use Rattle.std.proofs.lemmas.Option.{slice_get_within}
-use Rattle.ssf_model.specs.Reaction.{Each}
 use Rattle.sim_base.specs.declared.records.ServerRow.{ServerRow}
 use Rattle.ip_layer.specs.Forwarding.{has_address}
 use Rattle.tcp_rules.specs.Sessions.{End, state_of}
@@ -20,7 +18,7 @@ use Rattle.host_rules.specs.Sending.{own_addresses}
 use Rattle.host_rules.specs.Entries.{same_sockets, is_accepted, is_closed}
 use Rattle.host_rules.specs.Hearing.{entry_of, with_transfer}
 use Rattle.host_rules.specs.Reacting.{left_of, with_left, refilled_by, refilled}
-use Rattle.host_rules.specs.Limits.{EachPair, AreRows, MostTransfers, IsKindOf, IsEntry, IsEarlier, IsStack}
+use Rattle.host_rules.specs.Limits.{AreRows, IsKindOf, IsEntry, IsEarlier, IsStack}
 use Rattle.host_rules.proofs.Listing.{if_case, each_append, each_more, pairs_append}
 use Rattle.host_rules.proofs.Tables.{entry_later}
 
@@ -90,19 +88,21 @@ transfer_stack rows s sockets client server session is below next end running ki
       left = is.left;
       opened = omega (arith, opened, more);
       entries = each_append (IsEntry rows (s.opened + 1) (s.made + 1)) s.sessions (new ∷ [])
-          (each_more (IsEntry rows s.opened s.made) (IsEntry rows (s.opened + 1) (s.made + 1)) s.sessions (entry_later rows s.opened (s.opened + 1) s.made (s.made + 1) (omega arith) (omega arith)) is.entries)
-          (record {
-            number = omega arith;
-            ranges = end;
-            running = running;
-            kind = kind;
-            own = own;
-            client = λ c e. let same : client ≡ c = cc in omega (arith, same, below);
-            own_port = λ c e. omega (arith, port);
-          }, tt);
+          (each_more (IsEntry rows s.opened s.made) (IsEntry rows (s.opened + 1) (s.made + 1)) s.sessions (entry_later rows s.opened (s.opened + 1) s.made (s.made + 1) (omega arith) (omega arith)) is.entries) (
+            record {
+              number = omega arith;
+              ranges = end;
+              running = running;
+              kind = kind;
+              own = own;
+              client = λ c e. let same : client ≡ c = cc in omega (arith, same, below);
+              own_port = λ c e. omega (arith, port);
+            },
+            tt,
+          );
       order = pairs_append IsEarlier s.sessions new is.order
           (each_more (IsEntry rows s.opened s.made) (λ (x : EntryFields). IsEarlier x new) s.sessions
-            (λ x h. earlier_transfer rows s sockets new x x.client refl h refl refl refl port) is.entries);
+          (λ x h. earlier_transfer rows s sockets new x x.client refl h refl refl refl port) is.entries);
       accepted = omega (arith, count, accepted);
       few = omega (arith, count, few, length-append s.sessions (new ∷ []));
     }
@@ -156,7 +156,7 @@ pub refilled_stack : (rows : HostRows) (s : Stack) (client file : ℕ) → IsSta
 unfolding refilled
 refilled_stack rows s client file is below =
     if_case (λ (t : Stack). IsStack rows t) (nat_eq (left_of client s) 0 && nat_lt 0 file)
-        (λ e. refilled_by_stack rows s client file (next_server s.apps client) refl is below) (λ e. is)
+    (λ e. refilled_by_stack rows s client file (next_server s.apps client) refl is below) (λ e. is)
 
 -- the sessions are few
 sum_most : (p : Progress) → IsProgress p → sum p.given ≤ length p.given * length p.servers
@@ -169,4 +169,4 @@ few_sessions clients servers given giving total opened accepted all most e f wit
 pub sessions_few : (rows : HostRows) (s : Stack) → AreRows rows → IsStack rows s → length s.sessions ≤ 1050000
 sessions_few rows s ranges is =
     few_sessions (length rows.clients) (length rows.servers) (length s.apps.given) (length s.apps.servers) (sum s.apps.given) s.opened (count_by is_accepted s.sessions) (length s.sessions)
-        ranges.transfers is.given (ap (λ (xs : List ServerRow). length xs) is.servers) (sum_most s.apps is.progress) is.opened is.accepted is.few
+    ranges.transfers is.given (ap (λ (xs : List ServerRow). length xs) is.servers) (sum_most s.apps is.progress) is.opened is.accepted is.few

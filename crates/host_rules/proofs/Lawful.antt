@@ -1,21 +1,17 @@
 -- Effects that keep a host in range and write on its entity's channels: packets that are sent.
-use Rattle.std.proofs.Common.{◌≡◌, ◌⊎◌, ℕ, zero, suc, ◌+◌, ◌-◌, ◌*◌, ◌/◌, ◌^◌, ◌<◌, ◌≤◌, Bool, true, false, ◌&&◌, ◌||◌, Option, Some, None, List, [], ◌∷◌, ◌++◌, length, nat_eq, refl, ap, subst, sym, inl, inr, arith, if◌then◌else◌}
+use Rattle.std.proofs.Common.{◌≡◌, ℕ, zero, suc, ◌+◌, ◌≤◌, Bool, true, false, ◌||◌, Option, Some, None, List, [], ◌∷◌, length, nat_eq, refl, ap, subst, arith, if◌then◌else◌}
 use Rattle.std.specs.Prelude.{slice_get, slice_set}
 use Rattle.std.specs.List.{filter_map, cons_option}
-use Rattle.std.specs.Option.{ForSome, unwrap_or}
+use Rattle.std.specs.Option.{unwrap_or}
 use Rattle.std.proofs.lemmas.Bool.{leb-true, eq-eqb}
 use Rattle.std.proofs.lemmas.List.{length-append}
 use Rattle.event_order.specs.Pending.{Among}
-use Rattle.sim_base.specs.declared.records.Reason.{Reason}
-use Rattle.sim_base.specs.declared.records.Reason.TheVariants.{Route as NoRoute, Buffer, Link}
 use Rattle.sim_base.specs.SegmentFields.{SegmentFields, IsSegment}
-use Rattle.sim_base.specs.Traffic.{ticks_of}
 use Rattle.spf_routes.specs.declared.graph.Route.{Route}
 use Rattle.spf_routes.specs.Best.{route_at}
 use Rattle.ssf_model.specs.declared.event.Line.{Line}
-use Rattle.ssf_model.specs.declared.out.Written.{Written}
 use Rattle.ssf_model.specs.Reaction.{Each, LatestTime, LongestDelay, IsOwnWrite}
-use Rattle.net_iface.specs.InterfaceFields.{InterfaceFields, IsRated, IsInterface}
+use Rattle.net_iface.specs.InterfaceFields.{InterfaceFields, IsRated}
 use Rattle.net_iface.specs.DropTail.{offered, after_offer, has_room, delay, wait, queued, IfSent}
 use Rattle.net_iface.specs.declared.interface.Offer.{Offer}
 use Rattle.net_iface.specs.declared.interface.Offer.TheVariants.{Sent, Dropped}
@@ -30,7 +26,7 @@ use Rattle.tcp_rules.specs.Segments.{sent_of, Each as EachSegment}
 use Rattle.host_rules.specs.declared.rows.HostRows.{HostRows}
 use Rattle.host_rules.specs.declared.rows.HostPort.{HostPort}
 use Rattle.host_rules.specs.Hosts.{Sockets, Stack}
-use Rattle.host_rules.specs.Effects.{Effect, quiet, telling, and_then, dropped}
+use Rattle.host_rules.specs.Effects.{Effect, quiet, telling, and_then}
 use Rattle.host_rules.specs.Sending.{routes_at, own_addresses, second_of, is_down, answered, with_interface, offering, over_link, from_port, next_hop, forwarded, by_verdict, sending, address_of, source_by, source_to, packet_of, done, all_done}
 use Rattle.host_rules.specs.Limits.{AreRows, HasOuts, IsInterfaceOf, AreInterfaces, IsStack}
 use Rattle.host_rules.proofs.Listing.{if_case, each_append, each_at}
@@ -100,9 +96,9 @@ after_interface : (frequency : ℕ) (port : HostPort) (i : InterfaceFields) (byt
 unfolding after_offer
 after_interface f port i bytes now rated is early =
     if_case (λ (j : InterfaceFields). IsInterfaceOf f port j) (has_room i bytes now)
-        (λ room. let short = in_time i bytes now (as_interface f port i rated is) room in
-            record { bitrate = is.bitrate; frequency_is = is.frequency_is; buffer = is.buffer; soon = omega (arith, short, early) })
-        (λ e. is)
+    (λ room. let short = in_time i bytes now (as_interface f port i rated is) room in
+    record { bitrate = is.bitrate; frequency_is = is.frequency_is; buffer = is.buffer; soon = omega (arith, short, early) })
+    (λ e. is)
 
 interface_stack : (rows : HostRows) (s : Stack) (place : ℕ) (port : HostPort) (i : InterfaceFields) → IsStack rows s → slice_get rows.ports place ≡ Some port
     → IsInterfaceOf rows.tcp.frequency port i → IsStack rows (with_interface place i s)
@@ -154,7 +150,7 @@ module _ (rows : HostRows) (outs : List ℕ) (ranges : AreRows rows) (ways : Eac
       let of_port = interface_at rows.tcp.frequency rows.ports s.interfaces place port i is.interfaces at e in
       let after = after_interface rows.tcp.frequency port i packet.bytes now rated of_port early in
       answered_lawful port next channel packet (offered i packet.bytes now) (with_interface place (after_offer i packet.bytes now) s) among carried
-          (offered_short i packet.bytes now (as_interface rows.tcp.frequency port i rated of_port)) (interface_stack rows s place port (after_offer i packet.bytes now) is at after)
+      (offered_short i packet.bytes now (as_interface rows.tcp.frequency port i rated of_port)) (interface_stack rows s place port (after_offer i packet.bytes now) is at after)
 
   over_link_lawful : (port : HostPort) (place next now : ℕ) (packet : PacketFields) (channel : Option ℕ) (s : Stack) → second_of port.outs next ≡ channel
       → slice_get rows.ports place ≡ Some port → IsPacket packet → now ≤ LatestTime → IsStack rows s → IsLawful rows outs 1 (over_link port place next now packet channel s)
@@ -162,8 +158,8 @@ module _ (rows : HostRows) (outs : List ℕ) (ranges : AreRows rows) (ways : Eac
   over_link_lawful port place next now packet (Some channel) s e at carried early is =
       let among = second_among outs port.outs next channel (each_at (HasOuts outs) rows.ports place port ways at) e in
       if_case (λ (f : Effect). IsLawful rows outs 1 f) (is_down port now)
-          (λ t. lawful_telling rows outs 1 _ s is)
-          (λ t. offering_lawful port place next channel now packet (slice_get s.interfaces place) s refl at among carried early is)
+      (λ t. lawful_telling rows outs 1 _ s is)
+      (λ t. offering_lawful port place next channel now packet (slice_get s.interfaces place) s refl at among carried early is)
 
   from_port_lawful : (port : Option HostPort) (place next now : ℕ) (packet : PacketFields) (s : Stack) → slice_get rows.ports place ≡ port
       → IsPacket packet → now ≤ LatestTime → IsStack rows s → IsLawful rows outs 1 (from_port port place next now packet s)
@@ -194,17 +190,17 @@ module _ (rows : HostRows) (outs : List ℕ) (ranges : AreRows rows) (ways : Eac
   all_done_lawful now sockets [] s are early is = lawful_quiet rows outs 0 s is
   all_done_lawful now sockets (Entered state ∷ acts) s are early is =
       lawful_more rows outs (0 + length (sent_of acts)) (length (sent_of acts)) (all_done rows now sockets (Entered state ∷ acts) s) (omega arith)
-          (lawful_then rows outs 0 (length (sent_of acts)) (done rows now sockets (Entered state) s) (all_done rows now sockets acts) (lawful_telling rows outs 0 _ s is)
-            (λ t k. all_done_lawful now sockets acts t are early k))
+      (lawful_then rows outs 0 (length (sent_of acts)) (done rows now sockets (Entered state) s) (all_done rows now sockets acts) (lawful_telling rows outs 0 _ s is)
+      (λ t k. all_done_lawful now sockets acts t are early k))
   all_done_lawful now sockets (Delivered bytes ∷ acts) s are early is =
       lawful_more rows outs (0 + length (sent_of acts)) (length (sent_of acts)) (all_done rows now sockets (Delivered bytes ∷ acts) s) (omega arith)
-          (lawful_then rows outs 0 (length (sent_of acts)) (done rows now sockets (Delivered bytes) s) (all_done rows now sockets acts) (lawful_telling rows outs 0 _ s is)
-            (λ t k. all_done_lawful now sockets acts t are early k))
+      (lawful_then rows outs 0 (length (sent_of acts)) (done rows now sockets (Delivered bytes) s) (all_done rows now sockets acts) (lawful_telling rows outs 0 _ s is)
+      (λ t k. all_done_lawful now sockets acts t are early k))
   all_done_lawful now sockets (Send segment ∷ acts) s are early is =
       lawful_more rows outs (1 + length (sent_of acts)) (length (sent_of (Send segment ∷ acts))) (all_done rows now sockets (Send segment ∷ acts) s) (omega arith)
-          (lawful_then rows outs 1 (length (sent_of acts)) (done rows now sockets (Send segment) s) (all_done rows now sockets acts)
-            (sending_lawful now (packet_of sockets segment) s (packet_is sockets segment are.0) early is)
-            (λ t k. all_done_lawful now sockets acts t are.1 early k))
+      (lawful_then rows outs 1 (length (sent_of acts)) (done rows now sockets (Send segment) s) (all_done rows now sockets acts)
+      (sending_lawful now (packet_of sockets segment) s (packet_is sockets segment are.0) early is)
+      (λ t k. all_done_lawful now sockets acts t are.1 early k))
 
 -- The own address of what a host sends is one of its own, or 0.
 own_if : (rows : HostRows) (a : ℕ) → has_address (own_addresses rows) a ≡ true → (nat_eq a 0 || has_address (own_addresses rows) a) ≡ true

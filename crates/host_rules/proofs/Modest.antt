@@ -1,5 +1,5 @@
 -- At one event a host writes little on each channel: at most one of its processes writes.
-use Rattle.std.proofs.Common.{◌≡◌, ◌⊎◌, ℕ, zero, suc, ◌+◌, ◌<◌, ◌≤◌, Bool, true, false, ◌&&◌, ◌||◌, cond, Option, Some, None, List, [], ◌∷◌, ◌++◌, length, map, nat_eq, refl, ap, subst, sym, inl, inr, arith}
+use Rattle.std.proofs.Common.{◌≡◌, ◌⊎◌, ℕ, ◌+◌, ◌<◌, ◌≤◌, Bool, true, false, ◌&&◌, ◌||◌, cond, Option, Some, None, List, [], ◌∷◌, ◌++◌, map, nat_eq, refl, ap, subst, sym, inl, inr, arith}
 use Rattle.std.specs.Prelude.{slice_get}
 use Rattle.std.specs.List.{list_any, count_by}
 use Rattle.std.proofs.lemmas.Bool.{eqb-true}
@@ -15,7 +15,7 @@ use Rattle.ssf_model.specs.declared.wait.Kind.TheVariants.{Begin, Timer, Message
 use Rattle.ssf_model.specs.declared.out.Written.{Written}
 use Rattle.ssf_model.specs.declared.process.Process.{Process}
 use Rattle.ssf_model.specs.Wake.{waits_on, timer_delay}
-use Rattle.ssf_model.specs.Reaction.{Reaction, Each, LatestTime, Carries, wait_of}
+use Rattle.ssf_model.specs.Reaction.{Each, LatestTime, Carries, wait_of}
 use Rattle.ssf_model.specs.Deliver.{IsModest, IsCarried, MostWrites, wake_of, timer_write, reacted, delivered, is_write_on}
 use Rattle.ip_layer.specs.Packets.{PacketFields, IsPacket}
 use Rattle.host_rules.specs.declared.rows.HostRows.{HostRows}
@@ -23,7 +23,6 @@ use Rattle.host_rules.specs.declared.rows.HostPort.{HostPort}
 use Rattle.host_rules.specs.Hosts.{HostFields}
 use Rattle.host_rules.specs.Reacting.{Role, Receiver, Clock, Client, clients_from, roles, reply_of, host_reaction}
 use Rattle.host_rules.specs.Limits.{EachPair, IsWaitOf, AreWaits, IsHost}
-use Rattle.host_rules.proofs.Listing.{each_append}
 use Rattle.host_rules.proofs.Sound.{few_writes}
 
 no_channel : (i ticket c : ℕ) (delay : Option ℕ) → count_by (is_write_on {P = PacketFields} c) (timer_write i ticket delay) ≡ 0
@@ -217,14 +216,14 @@ modest_at : (s : HostFields) (ins outs : List ℕ) (timed : List Bool) (ps : Lis
 modest_at s ins outs timed ps now Begin c valid early carried = let none = all_begin now c 0 s ps in omega (arith, none)
 modest_at s ins outs timed ps now (Timer process ticket) c valid early carried =
     one_writes now c (Timer process ticket) s
-        (λ i p wake e. few_on s ins outs timed (map wait_of ps) i now c wake valid (timer_carries (nat_eq process i && nat_eq ticket p.ticket) wake e) early)
-        0 ps (one_named process ticket 0 ps)
+    (λ i p wake e. few_on s ins outs timed (map wait_of ps) i now c wake valid (timer_carries (nat_eq process i && nat_eq ticket p.ticket) wake e) early)
+    0 ps (one_named process ticket 0 ps)
 modest_at s ins outs timed ps now (Message channel payload) c valid early carried =
     let placed = valid.placed in
     let rising : EachPair (λ (a b : ℕ). a < b) (map channel_of s.rows.ports ++ s.rows.poke_in ∷ []) = subst (λ (xs : List ℕ). EachPair (λ (a b : ℕ). a < b) xs) placed.in_channels placed.rising in
     one_writes now c (Message channel payload) s
-        (λ i p wake e. few_on s ins outs timed (map wait_of ps) i now c wake valid (message_carries (waits_on p.wait channel) channel payload wake e carried) early)
-        0 ps (one_woken s.rows channel 0 payload (roles s.rows) ps placed.waits_are (one_hears s.rows channel s.rows.ports s.rows.clients rising))
+    (λ i p wake e. few_on s ins outs timed (map wait_of ps) i now c wake valid (message_carries (waits_on p.wait channel) channel payload wake e carried) early)
+    0 ps (one_woken s.rows channel 0 payload (roles s.rows) ps placed.waits_are (one_hears s.rows channel s.rows.ports s.rows.clients rising))
 
 -- the law on one event
 pub host_modest : IsModest IsHost IsPacket host_reaction

@@ -1,25 +1,24 @@
 -- A valid host stays valid, writes and waits on its entity's channels, and writes little at one action.
-use Rattle.std.proofs.Common.{◌≡◌, ◌⊎◌, ℕ, zero, suc, ◌+◌, ◌-◌, ◌*◌, ◌^◌, ◌<◌, ◌≤◌, Bool, true, false, Option, Some, None, List, [], ◌∷◌, ◌++◌, length, map, max, min, nat_eq, refl, ap, subst, sym, inl, inr, arith, if◌then◌else◌}
+use Rattle.std.proofs.Common.{◌≡◌, ℕ, zero, suc, ◌+◌, ◌<◌, ◌≤◌, Bool, true, false, Option, Some, None, List, [], ◌∷◌, ◌++◌, length, map, nat_eq, refl, ap, subst, sym, inl, inr, arith}
 use Rattle.std.specs.Prelude.{slice_get, slice_set, slice_index, option_map}
 use Rattle.std.proofs.lemmas.Option.{slice_get-map}
 use Rattle.event_order.specs.Pending.{Among}
 use Rattle.sim_base.specs.declared.records.ClientRow.{ClientRow}
 use Rattle.sim_base.specs.declared.records.ServerRow.{ServerRow}
 use Rattle.ssf_model.specs.declared.wait.Wait.{Wait}
-use Rattle.ssf_model.specs.declared.wait.Wait.TheVariants.{On, For, OnFor, Forever}
 use Rattle.ssf_model.specs.declared.wait.Wake.{Wake}
 use Rattle.ssf_model.specs.declared.wait.Wake.TheVariants.{Begin, Timer, Message}
 use Rattle.ssf_model.specs.Wake.{HasTimer}
-use Rattle.ssf_model.specs.Reaction.{Each, LatestTime, LongestDelay, Carries, IsReady, IsOwnWait, Keeps, KeepsValid}
+use Rattle.ssf_model.specs.Reaction.{Each, LatestTime, LongestDelay, Carries, IsOwnWait, Keeps, KeepsValid}
 use Rattle.ssf_model.specs.Deliver.{MostWrites}
 use Rattle.ip_layer.specs.Packets.{PacketFields, IsPacket}
 use Rattle.host_rules.specs.declared.rows.HostRows.{HostRows}
 use Rattle.host_rules.specs.declared.rows.HostPort.{HostPort}
 use Rattle.host_rules.specs.Hosts.{Stack, HostFields}
-use Rattle.host_rules.specs.Effects.{Effect, quiet}
+use Rattle.host_rules.specs.Effects.{quiet}
 use Rattle.host_rules.specs.Entries.{least}
-use Rattle.host_rules.specs.Reacting.{Role, Receiver, Clock, Client, clients_from, roles, is_timed_role, Reply, reply, receiver_wait, heard, receiver_reply, wait_until, clock_wait, ticked, clock_effect, clock_reply, left_of, udp_wait, start_wait, tcp_turn, udp_sent, client_turn, client_reply, role_reply, reply_of, outcome, host_reaction}
-use Rattle.host_rules.specs.Limits.{AreRows, IsTimedClient, IsWaitOf, AreWaits, HasOuts, IsPlaced, IsStack, IsHost}
+use Rattle.host_rules.specs.Reacting.{Role, Receiver, Clock, Client, clients_from, roles, is_timed_role, Reply, reply, heard, receiver_reply, wait_until, clock_wait, ticked, clock_effect, clock_reply, left_of, start_wait, tcp_turn, udp_sent, client_turn, client_reply, role_reply, reply_of, outcome, host_reaction}
+use Rattle.host_rules.specs.Limits.{AreRows, IsTimedClient, IsWaitOf, AreWaits, HasOuts, IsStack, IsHost}
 use Rattle.host_rules.proofs.Listing.{if_case, each_append, each_more, each_map, each_at}
 use Rattle.host_rules.proofs.Lawful.{IsLawful, lawful_quiet, lawful_more}
 use Rattle.host_rules.proofs.Turns.{ticked_lawful, heard_lawful, tcp_turn_lawful, udp_sent_lawful}
@@ -49,10 +48,10 @@ clients_are rows ins n (row ∷ others) few timed = ((omega (arith, few), timed.
 roles_are : (rows : HostRows) (ins : List ℕ) → AreRows rows → ins ≡ map channel_of rows.ports ++ rows.poke_in ∷ [] → Each (IsRole rows ins) (roles rows)
 roles_are rows ins ranges e =
     subst (λ (xs : List ℕ). Each (IsRole rows xs) (roles rows)) (sym e)
-        (let all = map channel_of rows.ports ++ rows.poke_in ∷ [] in
-          each_append (IsRole rows all) (map Receiver rows.ports) (Clock ∷ clients_from 0 rows.clients)
-            (each_map (λ (port : HostPort). Among port.in_channel all) (IsRole rows all) Receiver rows.ports (λ port among. among) (ins_have rows.ports (rows.poke_in ∷ [])))
-            (last_among (map channel_of rows.ports) rows.poke_in, clients_are rows all 0 rows.clients (omega arith) ranges.clients))
+    (let all = map channel_of rows.ports ++ rows.poke_in ∷ [] in
+    each_append (IsRole rows all) (map Receiver rows.ports) (Clock ∷ clients_from 0 rows.clients)
+    (each_map (λ (port : HostPort). Among port.in_channel all) (IsRole rows all) Receiver rows.ports (λ port among. among) (ins_have rows.ports (rows.poke_in ∷ [])))
+    (last_among (map channel_of rows.ports) rows.poke_in, clients_are rows all 0 rows.clients (omega arith) ranges.clients))
 
 -- Waits.
 waits_set : (rows : HostRows) (processes : List Role) (waits : List Wait) (i : ℕ) (role : Role) (wait : Wait) → AreWaits rows processes waits → slice_get processes i ≡ Some role
@@ -162,7 +161,7 @@ reply_is : (s : HostFields) (ins outs : List ℕ) (timed : List Bool) (waits : L
 reply_is s ins outs timed waits i role now wake valid at carried early =
     let placed = valid.placed in
     role_is s ins outs role now wake valid.rows placed.ways placed.poke valid.starts
-        (each_at (IsRole s.rows ins) (roles s.rows) i role (roles_are s.rows ins valid.rows placed.in_channels) at) carried early valid.stack
+    (each_at (IsRole s.rows ins) (roles s.rows) i role (roles_are s.rows ins valid.rows placed.in_channels) at) carried early valid.stack
 
 -- at one action a host writes few packets
 few_of : (s : HostFields) (ins outs : List ℕ) (timed : List Bool) (waits : List Wait) (i : ℕ) (role : Option Role) (now : ℕ) (wake : Wake PacketFields) → IsHost s ins outs timed waits

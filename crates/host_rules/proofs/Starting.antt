@@ -1,14 +1,13 @@
 -- A host is valid before its first event.
-use Rattle.std.proofs.Common.{◌≡◌, ℕ, zero, suc, ◌+◌, ◌-◌, ◌*◌, ◌/◌, ◌%◌, ◌^◌, ◌<◌, ◌≤◌, Bool, List, [], ◌∷◌, ◌++◌, length, map, replicate, nat_eq, refl, ap, subst, sym, arith, if◌then◌else◌}
+use Rattle.std.proofs.Common.{ℕ, zero, suc, ◌+◌, ◌-◌, ◌*◌, ◌/◌, ◌%◌, ◌^◌, ◌<◌, ◌≤◌, Bool, List, [], ◌∷◌, length, map, replicate, nat_eq, refl, subst, sym, arith}
 use Rattle.std.specs.Prelude.{slice_index_or}
-use Rattle.std.specs.List.{sum}
 use Rattle.std.specs.Int.{w32, rotate_right}
 use Rattle.std.proofs.lemmas.Nat.{or_of_32}
 use Rattle.std.proofs.lemmas.List.{length-map, length-replicate}
 use Rattle.std.proofs.Math.Nat.{div-le_self, mod-lt, mul-le-mul_right}
 use Rattle.sim_base.specs.declared.records.ClientRow.{ClientRow}
 use Rattle.rand_pcg.specs.Lcg.{Lcg}
-use Rattle.rand_pcg.specs.Pcg.{pcg32, output_xsh_rr, pcg32_of_seed}
+use Rattle.rand_pcg.specs.Pcg.{pcg32, pcg32_of_seed}
 use Rattle.rand_core.specs.Pcg32Seed.{pcg32_seed}
 use Rattle.traffic.specs.Progress.{at_first}
 use Rattle.traffic.specs.Starts.{start_of, drawn_start}
@@ -19,7 +18,7 @@ use Rattle.host_rules.specs.declared.rows.HostRows.{HostRows}
 use Rattle.host_rules.specs.declared.rows.HostPort.{HostPort}
 use Rattle.host_rules.specs.Hosts.{starts_from, starts_of, idle_interface, first_stack, first_host}
 use Rattle.host_rules.specs.Reacting.{Role, Receiver, Clock, Client, roles, is_timed_role}
-use Rattle.host_rules.specs.Limits.{AreRows, IsTimedClient, IsWaitOf, AreWaits, IsPlaced, AreInterfaces, IsStack, IsHost}
+use Rattle.host_rules.specs.Limits.{AreRows, IsTimedClient, AreWaits, IsPlaced, AreInterfaces, IsStack, IsHost}
 use Rattle.host_rules.proofs.Listing.{if_case}
 
 -- Random starts lie in their windows.
@@ -43,7 +42,7 @@ drawn_low : (generator : Lcg) (start window : ℕ) → (drawn_start generator st
 unfolding drawn_start
 drawn_low generator start window =
     if_case (λ (p : ℕ × Lcg). p.0 ≤ start + window) (nat_eq window 0) (λ e. omega arith)
-        (λ e. start_low start window (pcg32 generator).0 (word_low generator))
+    (λ e. start_low start window (pcg32 generator).0 (word_low generator))
 
 starts_low : (generator : Lcg) (clients : List ClientRow) → Each IsTimedClient clients → Each (λ start. start ≤ LongestDelay) (starts_from generator clients)
 starts_low generator [] are = tt

@@ -1,8 +1,7 @@
 -- What a host keeps stays in range when its table of sessions changes.
-use Rattle.std.proofs.Common.{◌≡◌, ◌⊎◌, ℕ, ◌+◌, ◌<◌, ◌≤◌, Bool, true, false, ◌&&◌, ◌||◌, cond, Option, Some, None, List, [], ◌∷◌, ◌++◌, length, map, nat_eq, refl, ap, subst, sym, inl, inr, arith, if◌then◌else◌}
-use Rattle.std.specs.List.{filter, count_by}
-use Rattle.std.specs.Option.{ForSome}
-use Rattle.std.proofs.lemmas.Bool.{eq-eqb, eqb-true}
+use Rattle.std.proofs.Common.{◌≡◌, ℕ, ◌+◌, ◌<◌, ◌≤◌, Bool, true, false, ◌||◌, cond, None, List, [], ◌∷◌, ◌++◌, map, nat_eq, refl, ap, subst, sym, inl, inr, arith, if◌then◌else◌}
+use Rattle.std.specs.List.{count_by}
+use Rattle.std.proofs.lemmas.Bool.{eq-eqb}
 use Rattle.std.proofs.lemmas.Bool.Decides.{eqb_tells}
 use Rattle.std.proofs.lemmas.List.{length-append, length-map}
 use Rattle.std.proofs.lemmas.List.Sums.{sum_by-append}
@@ -17,7 +16,7 @@ use Rattle.host_rules.specs.Sending.{own_addresses}
 use Rattle.host_rules.specs.Entries.{same_sockets, found, is_accepted, changed, with_session, is_other, without, is_closed, settled}
 use Rattle.host_rules.specs.Hearing.{MostAccepted, entry_of, with_entry}
 use Rattle.host_rules.specs.Limits.{EachPair, IsKindOf, IsEntry, IsEarlier, IsStack}
-use Rattle.host_rules.proofs.Listing.{if_case, each_append, each_more, each_map, each_filter, each_among, each_both, pairs_append, pairs_map, pairs_filter, none_found, count_cons, count_map, count_filter, lost_filter}
+use Rattle.host_rules.proofs.Listing.{if_case, each_append, each_more, each_filter, each_among, each_both, pairs_append, pairs_map, pairs_filter, none_found, count_map, count_filter, lost_filter}
 
 not_eq : (a b : ℕ) → (a ≡ b → ⊥) → nat_eq a b ≡ false
 not_eq a b differs = elim (eqb_tells a b) [ inl e ↦ absurd (differs e.1) | inr e ↦ e.0 ]
@@ -44,9 +43,10 @@ changed_each : (P : EntryFields → Type 0) (x : EntryFields) (session : End) (x
 changed_each P x session [] order h m k = absurd m
 changed_each P x session (y ∷ ys) order h (inl e) k =
     let first : P (changed x.number session x) = subst P (sym (changed_same x.number session x (eq-eqb x.number x.number refl))) k in
-    let number : x.number ≡ y.number = ap (λ (z : EntryFields). z.number) e in
-    (subst (λ (z : EntryFields). P (changed x.number session z)) e first,
-        later_kept P x.number session ys (each_more (IsEarlier y) (λ (z : EntryFields). x.number < z.number) ys (λ z before. let below = before.number in omega (arith, number, below)) order.0) h.1)
+    let number : x.number ≡ y.number = ap (λ (z : EntryFields). z.number) e in (
+      subst (λ (z : EntryFields). P (changed x.number session z)) e first,
+      later_kept P x.number session ys (each_more (IsEarlier y) (λ (z : EntryFields). x.number < z.number) ys (λ z before. let below = before.number in omega (arith, number, below)) order.0) h.1,
+    )
 changed_each P x session (y ∷ ys) order h (inr m) k =
     let before = each_among (IsEarlier y) ys x order.0 m in
     let below : y.number < x.number = before.number in
@@ -99,12 +99,9 @@ pub settled_stack : (rows : HostRows) (s : Stack) (x : EntryFields) (session : E
 unfolding settled
 settled_stack rows s x session is m end kind =
     if_case (λ (xs : List EntryFields). IsStack rows (record s { sessions = xs })) (is_closed (state_of session))
-        (λ e. without_stack rows s x.number is) (λ e. changed_stack rows s x session is m end kind e)
+    (λ e. without_stack rows s x.number is) (λ e. changed_stack rows s x session is m end kind e)
 
 -- One session more, which was accepted.
-
-
-
 
 pub entry_later : (rows : HostRows) (opened opened' made made' : ℕ) → opened ≤ opened' → made ≤ made' → (x : EntryFields) → IsEntry rows opened made x → IsEntry rows opened' made' x
 entry_later rows opened opened' made made' more_opened more_made x is =
@@ -141,7 +138,7 @@ accepted_stack rows s sockets session is end running kind own none room =
           (record { number = omega arith; ranges = end; running = running; kind = kind; own = own; client = λ c e. absurd (cc); own_port = λ c e. absurd (cc) }, tt);
       order = pairs_append IsEarlier s.sessions new is.order
           (each_more (λ (x : EntryFields). IsEntry rows s.opened s.made x × (same_sockets x.sockets sockets ≡ false)) (λ (x : EntryFields). IsEarlier x new) s.sessions
-            (λ x h. record { number = h.0.number; ends = λ same. absurd (cc) }) all);
+          (λ x h. record { number = h.0.number; ends = λ same. absurd (cc) }) all);
       accepted = omega (arith, count, room);
       few = omega (arith, count, few, length-append s.sessions (new ∷ []));
     }

@@ -1,7 +1,7 @@
 -- Effects that keep a host in range: packets that come, deadlines, transfers and datagrams.
-use Rattle.std.proofs.Common.{◌≡◌, ◌⊎◌, ℕ, zero, suc, ◌+◌, ◌-◌, ◌*◌, ◌^◌, ◌<◌, ◌≤◌, Bool, true, false, ◌&&◌, ◌||◌, not, Option, Some, None, List, [], ◌∷◌, ◌++◌, length, map, min, nat_eq, nat_le, nat_lt, refl, ap, subst, sym, inl, inr, arith, if◌then◌else◌}
-use Rattle.std.specs.Prelude.{slice_get, slice_index, is_none}
-use Rattle.std.specs.List.{list_any, filter, count_by}
+use Rattle.std.proofs.Common.{◌≡◌, ℕ, ◌+◌, ◌-◌, ◌*◌, ◌<◌, ◌≤◌, Bool, true, false, ◌&&◌, ◌||◌, Option, Some, None, List, [], ◌∷◌, length, min, nat_eq, nat_le, nat_lt, refl, arith, if◌then◌else◌}
+use Rattle.std.specs.Prelude.{slice_get, is_none}
+use Rattle.std.specs.List.{filter, count_by}
 use Rattle.std.specs.Option.{ForSome}
 use Rattle.std.proofs.lemmas.Bool.{ltb-true}
 use Rattle.std.proofs.lemmas.List.{length-map}
@@ -12,7 +12,7 @@ use Rattle.sim_base.specs.declared.records.TcpConfig.{TcpConfig}
 use Rattle.sim_base.specs.declared.records.Reason.TheVariants.{Ttl, Route as NoRoute}
 use Rattle.sim_base.specs.SegmentFields.{SegmentFields, IsSegment}
 use Rattle.spf_routes.specs.declared.graph.Route.{Route}
-use Rattle.ssf_model.specs.Reaction.{Each, LatestTime, LongestDelay}
+use Rattle.ssf_model.specs.Reaction.{Each, LatestTime}
 use Rattle.ip_layer.specs.Packets.{PacketFields, IsPacket}
 use Rattle.ip_layer.specs.Forwarding.{has_address, forward, best_route, sent, received, passed_on}
 use Rattle.ip_layer.specs.declared.verdict.Verdict.{Verdict}
@@ -21,17 +21,16 @@ use Rattle.tcp_rules.specs.Segments.{Turn, sent_of}
 use Rattle.tcp_rules.specs.Clients.{opened}
 use Rattle.tcp_rules.specs.Servers.{listened}
 use Rattle.tcp_rules.specs.Sessions.{End, Client, Server, connecting, accepting, at_segment, at_timeout, state_of}
-use Rattle.tcp_rules.specs.Limits.{IsEnd, IsOrderly}
+use Rattle.tcp_rules.specs.Limits.{IsOrderly}
 use Rattle.tcp_rules.proofs.Sessions.{connecting_orderly, accepting_orderly, segment_orderly, timeout_orderly}
 use Rattle.traffic.specs.Progress.{next_server}
 use Rattle.host_rules.specs.declared.rows.HostRows.{HostRows}
-use Rattle.host_rules.specs.declared.rows.HostPort.{HostPort}
 use Rattle.host_rules.specs.Hosts.{Sockets, EntryFields, Stack}
-use Rattle.host_rules.specs.Effects.{Effect, quiet, telling, and_then, dropped}
-use Rattle.host_rules.specs.Sending.{routes_at, own_addresses, by_verdict, sending, all_done}
+use Rattle.host_rules.specs.Effects.{Effect, quiet}
+use Rattle.host_rules.specs.Sending.{routes_at, own_addresses, by_verdict, all_done}
 use Rattle.host_rules.specs.Entries.{same_sockets, found, numbered, is_accepted, is_due, due, least, is_closed, settled, ends}
 use Rattle.host_rules.specs.Hearing.{MostAccepted, server_address, transfer_sockets, with_transfer, with_entry, opening_to, next_transfer, next_of, next_after, turned, listens_on, udp_arrived, may_accept, sockets_of, opened_by, tcp_arrived_at, tcp_arrived, at_home, at_verdict, arrived, timed_out_at, timed_out, all_timed_out}
-use Rattle.host_rules.specs.Reacting.{blank_packet, is_same_tick, poke, poke_unless, with_poke, heard, ticked, left_of, with_left, refilled, datagram, present_server, datagram_to, datagram_sent, udp_turn, tcp_turn, udp_sent}
+use Rattle.host_rules.specs.Reacting.{blank_packet, is_same_tick, poke_unless, with_poke, heard, ticked, left_of, with_left, refilled, datagram, present_server, datagram_to, datagram_sent, udp_turn, tcp_turn, udp_sent}
 use Rattle.host_rules.specs.Limits.{AreRows, IsTimedClient, HasOuts, IsKindOf, IsEntry, IsStack}
 use Rattle.host_rules.proofs.Listing.{if_case, each_at, each_among, found_among, length_filter}
 use Rattle.host_rules.proofs.Tables.{settled_stack, accepted_stack}
@@ -85,7 +84,7 @@ room_left : (rows : HostRows) (packet : PacketFields) (segment : SegmentFields) 
 unfolding may_accept
 room_left rows packet segment s e =
     ltb-true (count_by is_accepted s.sessions) MostAccepted
-        (last_true segment.syn (is_none segment.ack) (listens_on rows packet.dst_port) (nat_lt (count_by is_accepted s.sessions) MostAccepted) e)
+    (last_true segment.syn (is_none segment.ack) (listens_on rows packet.dst_port) (nat_lt (count_by is_accepted s.sessions) MostAccepted) e)
 
 -- A packet is for the host only where its destination is one of the host's addresses.
 forward_not_local : (o : Option ℕ) → forward o ≡ Local → ⊥
@@ -107,6 +106,7 @@ local_is own routes packet e = received_case (has_address own packet.dst) refl e
     ttl_case : (b : Bool) → (if b then DroppedBy Ttl else sent own routes (passed_on packet)) ≡ Local → ⊥
     ttl_case true e = cc
     ttl_case false e = sent_not_local own routes (passed_on packet) e
+
     received_case : (b : Bool) → has_address own packet.dst ≡ b → (if b then Local else if nat_le packet.ttl 1 then DroppedBy Ttl else sent own routes (passed_on packet)) ≡ Local → has_address own packet.dst ≡ true
     received_case true t e = t
     received_case false t e = absurd (ttl_case (nat_le packet.ttl 1) e)
@@ -134,9 +134,9 @@ module _ (rows : HostRows) (outs : List ℕ) (ranges : AreRows rows) (ways : Eac
       let timed = each_at IsTimedClient rows.clients client row ranges.clients e in
       let orderly = connecting_orderly rows.tcp row.file now ranges.tcp timed.ranges.file in
       lawful_more rows outs (length (sent_of turn.acts)) 1 (all_done rows now sockets turn.acts (with_transfer sockets client turn.after s)) orderly.few
-          (all_done_lawful rows outs ranges ways now sockets turn.acts (with_transfer sockets client turn.after s) orderly.segments early
-            (transfer_stack rows s sockets client server turn.after is below f orderly.session (connecting_open rows.tcp row.file now)
-              (connecting_kind client rows.tcp row.file now) (source_own rows s now (server_address rows server)) refl))
+      (all_done_lawful rows outs ranges ways now sockets turn.acts (with_transfer sockets client turn.after s) orderly.segments early
+      (transfer_stack rows s sockets client server turn.after is below f orderly.session (connecting_open rows.tcp row.file now)
+      (connecting_kind client rows.tcp row.file now) (source_own rows s now (server_address rows server)) refl))
 
   next_transfer_lawful : (now client : ℕ) (s : Stack) → client < length rows.clients → now ≤ LatestTime → IsStack rows s → IsLawful rows outs 1 (next_transfer rows now client s)
   unfolding next_transfer
@@ -152,7 +152,7 @@ module _ (rows : HostRows) (outs : List ℕ) (ranges : AreRows rows) (ways : Eac
   unfolding next_after
   next_after_lawful now x session s below early is =
       if_case (λ (e : Effect). IsLawful rows outs 1 e) (ends (state_of x.session) (state_of session))
-          (λ t. next_of_lawful now x.client s below early is) (λ t. lawful_quiet rows outs 1 s is)
+      (λ t. next_of_lawful now x.client s below early is) (λ t. lawful_quiet rows outs 1 s is)
 
   -- Sessions.
   turned_lawful : (most now : ℕ) (x : EntryFields) (turn : Turn End) (s : Stack) → Among x s.sessions → IsOrderly most turn → IsKindOf x.client turn.after → now ≤ LatestTime → IsStack rows s
@@ -162,9 +162,9 @@ module _ (rows : HostRows) (outs : List ℕ) (ranges : AreRows rows) (ways : Eac
       let entry = each_among (IsEntry rows s.opened s.made) s.sessions x is.entries among in
       let after : Stack = record s { sessions = settled x.number turn.after s.sessions } in
       lawful_then rows outs most 1 (all_done rows now x.sockets turn.acts after) (next_after rows now x turn.after)
-          (lawful_more rows outs (length (sent_of turn.acts)) most (all_done rows now x.sockets turn.acts after) orderly.few
-            (all_done_lawful rows outs ranges ways now x.sockets turn.acts after orderly.segments early (settled_stack rows s x turn.after is among orderly.session kind)))
-          (λ t k. next_after_lawful now x turn.after t entry.client early k)
+      (lawful_more rows outs (length (sent_of turn.acts)) most (all_done rows now x.sockets turn.acts after) orderly.few
+      (all_done_lawful rows outs ranges ways now x.sockets turn.acts after orderly.segments early (settled_stack rows s x turn.after is among orderly.session kind)))
+      (λ t k. next_after_lawful now x turn.after t entry.client early k)
 
   -- Packets.
   udp_lawful : (most : ℕ) (packet : PacketFields) (s : Stack) → IsStack rows s → IsLawful rows outs most (udp_arrived rows packet s)
@@ -179,8 +179,8 @@ module _ (rows : HostRows) (outs : List ℕ) (ranges : AreRows rows) (ways : Eac
       let orderly = accepting_orderly rows.tcp segment now ranges.tcp ranged in
       let few = orderly.few in
       lawful_more rows outs (length (sent_of turn.acts)) 65539 (all_done rows now sockets turn.acts (with_entry sockets None turn.after s)) (omega (arith, few))
-          (all_done_lawful rows outs ranges ways now sockets turn.acts (with_entry sockets None turn.after s) orderly.segments early
-            (accepted_stack rows s sockets turn.after is orderly.session (accepting_open rows.tcp segment now) (accepting_kind rows.tcp segment now) own none room))
+      (all_done_lawful rows outs ranges ways now sockets turn.acts (with_entry sockets None turn.after s) orderly.segments early
+      (accepted_stack rows s sockets turn.after is orderly.session (accepting_open rows.tcp segment now) (accepting_kind rows.tcp segment now) own none room))
 
   tcp_at_lawful : (now : ℕ) (packet : PacketFields) (segment : SegmentFields) (x : Option EntryFields) (s : Stack) → found (sockets_of packet) s.sessions ≡ x → IsSegment segment
       → has_address (own_addresses rows) packet.dst ≡ true → now ≤ LatestTime → IsStack rows s → IsLawful rows outs 65539 (tcp_arrived_at rows now packet segment x s)
@@ -188,11 +188,11 @@ module _ (rows : HostRows) (outs : List ℕ) (ranges : AreRows rows) (ways : Eac
       let among = found_is (sockets_of packet) s.sessions x e in
       let entry = each_among (IsEntry rows s.opened s.made) s.sessions x is.entries among in
       lawful_more rows outs (65538 + 1) 65539 (turned rows now x (at_segment x.session segment now) s) (omega arith)
-          (turned_lawful 65538 now x (at_segment x.session segment now) s among (segment_orderly x.session segment now entry.ranges ranged) (segment_kind x.client x.session segment now entry.kind) early is)
+      (turned_lawful 65538 now x (at_segment x.session segment now) s among (segment_orderly x.session segment now entry.ranges ranged) (segment_kind x.client x.session segment now entry.kind) early is)
   tcp_at_lawful now packet segment None s e ranged here early is =
       if_case (λ (f : Effect). IsLawful rows outs 65539 f) (may_accept rows packet segment s)
-          (λ t. opened_by_lawful now (sockets_of packet) segment s ranged (own_address rows packet.dst here) e (room_left rows packet segment s t) early is)
-          (λ t. lawful_telling rows outs 65539 _ s is)
+      (λ t. opened_by_lawful now (sockets_of packet) segment s ranged (own_address rows packet.dst here) e (room_left rows packet segment s t) early is)
+      (λ t. lawful_telling rows outs 65539 _ s is)
 
   tcp_lawful : (now : ℕ) (packet : PacketFields) (segment : SegmentFields) (s : Stack) → IsSegment segment → has_address (own_addresses rows) packet.dst ≡ true → now ≤ LatestTime → IsStack rows s
       → IsLawful rows outs 65539 (tcp_arrived rows now packet segment s)
@@ -208,7 +208,7 @@ module _ (rows : HostRows) (outs : List ℕ) (ranges : AreRows rows) (ways : Eac
       → IsLawful rows outs 65539 (by_verdict rows routes now (passed_on packet) v s)
   passed_lawful routes now packet v s carried early is =
       lawful_more rows outs 1 65539 (by_verdict rows routes now (passed_on packet) v s) (omega arith)
-          (verdict_lawful rows outs ranges ways routes now (passed_on packet) v s (passed_is packet carried) early is)
+      (verdict_lawful rows outs ranges ways routes now (passed_on packet) v s (passed_is packet carried) early is)
 
   at_verdict_lawful : (routes : List Route) (now : ℕ) (packet : PacketFields) (v : Verdict) (s : Stack) → (v ≡ Local → has_address (own_addresses rows) packet.dst ≡ true) → IsPacket packet
       → now ≤ LatestTime → IsStack rows s → IsLawful rows outs 65539 (at_verdict rows routes now packet v s)
@@ -229,7 +229,7 @@ module _ (rows : HostRows) (outs : List ℕ) (ranges : AreRows rows) (ways : Eac
       let among = numbered_is number s.sessions x e in
       let entry = each_among (IsEntry rows s.opened s.made) s.sessions x is.entries among in
       lawful_more rows outs (1 + 1) 2 (turned rows now x (at_timeout x.session now) s) (omega arith)
-          (turned_lawful 1 now x (at_timeout x.session now) s among (timeout_orderly x.session now entry.ranges) (timeout_kind x.client x.session now entry.kind) early is)
+      (turned_lawful 1 now x (at_timeout x.session now) s among (timeout_orderly x.session now entry.ranges) (timeout_kind x.client x.session now entry.kind) early is)
 
   timed_out_lawful : (now number : ℕ) (s : Stack) → now ≤ LatestTime → IsStack rows s → IsLawful rows outs 2 (timed_out rows now number s)
   unfolding timed_out
@@ -239,15 +239,15 @@ module _ (rows : HostRows) (outs : List ℕ) (ranges : AreRows rows) (ways : Eac
   all_timed_out_lawful now [] s early is = lawful_quiet rows outs (2 * length {A = ℕ} []) s is
   all_timed_out_lawful now (number ∷ numbers) s early is =
       lawful_more rows outs (2 + 2 * length numbers) (2 * length (number ∷ numbers)) (all_timed_out rows now (number ∷ numbers) s) (omega arith)
-          (lawful_then rows outs 2 (2 * length numbers) (timed_out rows now number s) (all_timed_out rows now numbers) (timed_out_lawful now number s early is)
-            (λ t k. all_timed_out_lawful now numbers t early k))
+      (lawful_then rows outs 2 (2 * length numbers) (timed_out rows now number s) (all_timed_out rows now numbers) (timed_out_lawful now number s early is)
+      (λ t k. all_timed_out_lawful now numbers t early k))
 
   pub ticked_lawful : (now : ℕ) (s : Stack) → now ≤ LatestTime → IsStack rows s → IsLawful rows outs 2100000 (ticked rows now s)
   unfolding ticked
   ticked_lawful now s early is =
       let few = sessions_few rows s ranges is in
       lawful_more rows outs (2 * length (due now s.sessions)) 2100000 (all_timed_out rows now (due now s.sessions) s) (omega (arith, due_few now s.sessions, few))
-          (all_timed_out_lawful now (due now s.sessions) s early is)
+      (all_timed_out_lawful now (due now s.sessions) s early is)
 
   -- Pokes.
   poke_lawful : (same : Bool) (s : Stack) → Among rows.poke_out outs → IsStack rows s → IsLawful rows outs 1 (poke_unless same rows s)
@@ -264,37 +264,37 @@ module _ (rows : HostRows) (outs : List ℕ) (ranges : AreRows rows) (ways : Eac
   unfolding heard
   heard_lawful now packet s among carried early is =
       lawful_more rows outs (65539 + 1) 65540 (with_poke rows s (arrived rows now packet s)) (omega arith)
-          (with_poke_lawful 65539 s (arrived rows now packet s) among (arrived_lawful now packet s carried early is))
+      (with_poke_lawful 65539 s (arrived rows now packet s) among (arrived_lawful now packet s carried early is))
 
   -- Client sessions.
   pub tcp_turn_lawful : (now client : ℕ) (s : Stack) → Among rows.poke_out outs → client < length rows.clients → now ≤ LatestTime → IsStack rows s → IsLawful rows outs 2 (tcp_turn rows now client s)
   unfolding tcp_turn
   tcp_turn_lawful now client s among below early is =
       lawful_more rows outs (1 + 1) 2 (with_poke rows s (next_transfer rows now client s)) (omega arith)
-          (with_poke_lawful 1 s (next_transfer rows now client s) among (next_transfer_lawful now client s below early is))
+      (with_poke_lawful 1 s (next_transfer rows now client s) among (next_transfer_lawful now client s below early is))
 
   datagram_to_lawful : (now client bytes : ℕ) (server : Option ServerRow) (s : Stack) → now ≤ LatestTime → IsStack rows s → IsLawful rows outs 1 (datagram_to rows now client bytes server s)
   datagram_to_lawful now client bytes None s early is = lawful_quiet rows outs 1 s is
   datagram_to_lawful now client bytes (Some server) s early is =
       sending_lawful rows outs ranges ways now (datagram rows now bytes server s) (with_left client (left_of client s - bytes) s) (datagram_is rows now bytes server s) early
-          (left_stack rows s client (left_of client s - bytes) is)
+      (left_stack rows s client (left_of client s - bytes) is)
 
   datagram_sent_lawful : (now client : ℕ) (row : ClientRow) (s : Stack) → now ≤ LatestTime → IsStack rows s → IsLawful rows outs 1 (datagram_sent rows now client row s)
   unfolding datagram_sent
   datagram_sent_lawful now client row s early is =
       if_case (λ (e : Effect). IsLawful rows outs 1 e) (nat_eq (left_of client s) 0) (λ t. lawful_quiet rows outs 1 s is)
-          (λ t. datagram_to_lawful now client (min row.datagram (left_of client s)) (present_server client s) s early is)
+      (λ t. datagram_to_lawful now client (min row.datagram (left_of client s)) (present_server client s) s early is)
 
   udp_turn_lawful : (now client : ℕ) (row : ClientRow) (s : Stack) → client < length rows.clients → now ≤ LatestTime → IsStack rows s → IsLawful rows outs 1 (udp_turn rows now client row s)
   udp_turn_lawful now client row s below early is =
       lawful_more rows outs (1 + 0) 1 (udp_turn rows now client row s) (omega arith)
-          (lawful_then rows outs 1 0 (datagram_sent rows now client row (refilled client row.file s)) (λ after. quiet (refilled client row.file after))
-            (datagram_sent_lawful now client row (refilled client row.file s) early (refilled_stack rows s client row.file is below))
-            (λ t k. lawful_quiet rows outs 0 (refilled client row.file t) (refilled_stack rows t client row.file k below)))
+      (lawful_then rows outs 1 0 (datagram_sent rows now client row (refilled client row.file s)) (λ after. quiet (refilled client row.file after))
+      (datagram_sent_lawful now client row (refilled client row.file s) early (refilled_stack rows s client row.file is below))
+      (λ t k. lawful_quiet rows outs 0 (refilled client row.file t) (refilled_stack rows t client row.file k below)))
 
   pub udp_sent_lawful : (now client : ℕ) (row : ClientRow) (s : Stack) → Among rows.poke_out outs → client < length rows.clients → now ≤ LatestTime → IsStack rows s
       → IsLawful rows outs 2 (udp_sent rows now client row s)
   unfolding udp_sent
   udp_sent_lawful now client row s among below early is =
       lawful_more rows outs (1 + 1) 2 (with_poke rows s (udp_turn rows now client row s)) (omega arith)
-          (with_poke_lawful 1 s (udp_turn rows now client row s) among (udp_turn_lawful now client row s below early is))
+      (with_poke_lawful 1 s (udp_turn rows now client row s) among (udp_turn_lawful now client row s below early is))

@@ -1,15 +1,12 @@
 -- Worked runs of two small networks, computed from the definitions.
 use Rattle.std.proofs.Common.{◌≡◌, ℕ, zero, suc, ◌+◌, ◌++◌, ◌*◌, Bool, true, false, List, [], ◌∷◌, map, Some, None, refl}
 use Rattle.std.specs.List.{filter}
-use Rattle.event_order.specs.declared.key.Key.{Key}
 use Rattle.event_order.specs.Order.{comes_before}
 use Rattle.event_order.specs.Machine.{World, after, all_kept}
 use Rattle.sim_base.specs.declared.records.TcpConfig.{TcpConfig}
-use Rattle.sim_base.specs.declared.records.ClientRow.{ClientRow}
 use Rattle.sim_base.specs.declared.records.TcpState.{TcpState}
 use Rattle.sim_base.specs.declared.records.TcpState.TheVariants.{SynSent, SynReceived, Established, FinWait1, FinWait2, TimeWait, LastAck, Closed}
 use Rattle.sim_base.specs.declared.records.Reason.TheVariants.{Route as NoRoute, Link, Buffer}
-use Rattle.ip_blocks.specs.declared.block.Block.{Block}
 use Rattle.spf_routes.specs.declared.graph.Route.{Route}
 use Rattle.spf_routes.specs.declared.graph.Period.{Period}
 use Rattle.ssf_model.specs.declared.event.Entry.{Entry}
@@ -304,7 +301,7 @@ three_sent : Effect
 three_sent =
     let first : Stack = first_stack tight_rows in
     and_then (sending tight_rows 0 (a_datagram 1500) first)
-        (λ second. and_then (sending tight_rows 0 (a_datagram 1500) second) (λ third. sending tight_rows 0 (a_datagram 500) third))
+    (λ second. and_then (sending tight_rows 0 (a_datagram 1500) second) (λ third. sending tight_rows 0 (a_datagram 500) third))
 
 what_finds_no_room_is_dropped : three_sent.lines ≡ Sent 0 (address 2) false 1500 ∷ Dropped Buffer false 1500 ∷ Sent 0 (address 2) false 500 ∷ []
 unfolding three_sent routes_at own_addresses is_down forwarded sending best_route sent offered after_offer at_first

@@ -1,5 +1,5 @@
 -- What a part of an action does: what it makes of the host, what it writes, and what it tells, in order.
-use Rattle.std.specs.Prelude.{ℕ, List, [], ◌∷◌, ◌++◌}
+use Rattle.std.specs.Prelude.{List, [], ◌∷◌, ◌++◌}
 use Rattle.sim_base.specs.declared.records.Reason.{Reason}
 use Rattle.ssf_model.specs.declared.event.Line.{Line}
 use Rattle.ssf_model.specs.declared.event.Line.TheVariants.{Dropped}

@@ -74,7 +74,7 @@ next_after rows now x session stack = if ends (state_of x.session) (state_of ses
 unfoldable pub turned : HostRows → (now : ℕ) → EntryFields → Turn End → Stack → Effect
 turned rows now x turn stack =
     and_then (all_done rows now x.sockets turn.acts (record stack { sessions = settled x.number turn.after stack.sessions }))
-        (next_after rows now x turn.after)
+    (next_after rows now x turn.after)
 
 -- Packets for the host.
 abbrev pub listens_on : HostRows → ℕ → Bool

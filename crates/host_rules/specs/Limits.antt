@@ -7,9 +7,8 @@ use Rattle.sim_base.specs.declared.records.ClientRow.{ClientRow}
 use Rattle.sim_base.specs.Traffic.{IsClient}
 use Rattle.ssf_model.specs.declared.wait.Wait.{Wait}
 use Rattle.ssf_model.specs.declared.wait.Wait.TheVariants.{On, For, OnFor, Forever}
-use Rattle.ssf_model.specs.Reaction.{Each, LongestDelay, Validity}
+use Rattle.ssf_model.specs.Reaction.{Each, LongestDelay}
 use Rattle.net_iface.specs.InterfaceFields.{InterfaceFields, IsRated}
-use Rattle.ip_layer.specs.Packets.{IsPacket}
 use Rattle.ip_layer.specs.Forwarding.{has_address}
 use Rattle.tcp_rules.specs.Segments.{IsTimedTcp}
 use Rattle.tcp_rules.specs.Sessions.{End, Client, Server, state_of}
