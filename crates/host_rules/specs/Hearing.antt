@@ -19,7 +19,7 @@ use Rattle.host_rules.specs.declared.rows.HostRows.{HostRows}
 use Rattle.host_rules.specs.Hosts.{Sockets, EntryFields, Stack}
 use Rattle.host_rules.specs.Effects.{Effect, quiet, telling, and_then, dropped}
 use Rattle.host_rules.specs.Sending.{routes_at, own_addresses, second_of, by_verdict, source_to, all_done}
-use Rattle.host_rules.specs.Entries.{found, numbered, is_accepted, settled, ends}
+use Rattle.host_rules.specs.Entries.{found, numbered, is_accepted, is_due, settled, ends}
 
 -- A session more, which has the next number.
 abbrev pub entry_of : Sockets → Option ℕ → End → Stack → EntryFields
@@ -127,9 +127,9 @@ arrived rows now packet stack =
 -- Deadlines.
 abbrev pub timed_out_at : HostRows → (now : ℕ) → Option EntryFields → Stack → Effect
 timed_out_at rows now None stack = quiet stack
-timed_out_at rows now (Some x) stack = turned rows now x (at_timeout x.session now) stack
+timed_out_at rows now (Some x) stack = if is_due now x then turned rows now x (at_timeout x.session now) stack else quiet stack
 
--- the deadline of the session of this number has passed
+-- where the deadline of the session of this number has passed
 unfoldable pub timed_out : HostRows → (now number : ℕ) → Stack → Effect
 timed_out rows now number stack = timed_out_at rows now (numbered number stack.sessions) stack
 
