@@ -229,9 +229,9 @@ module _ (rows : HostRows) (outs : List ℕ) (ranges : AreRows rows) (ways : Eac
       let among = numbered_is number s.sessions x e in
       let entry = each_among (IsEntry rows s.opened s.made) s.sessions x is.entries among in
       if_case (λ (f : Effect). IsLawful rows outs 2 f) (is_due now x)
-          (λ t. lawful_more rows outs (1 + 1) 2 (turned rows now x (at_timeout x.session now) s) (omega arith)
-            (turned_lawful 1 now x (at_timeout x.session now) s among (timeout_orderly x.session now entry.ranges) (timeout_kind x.client x.session now entry.kind) early is))
-          (λ t. lawful_quiet rows outs 2 s is)
+      (λ t. lawful_more rows outs (1 + 1) 2 (turned rows now x (at_timeout x.session now) s) (omega arith)
+      (turned_lawful 1 now x (at_timeout x.session now) s among (timeout_orderly x.session now entry.ranges) (timeout_kind x.client x.session now entry.kind) early is))
+      (λ t. lawful_quiet rows outs 2 s is)
 
   timed_out_lawful : (now number : ℕ) (s : Stack) → now ≤ LatestTime → IsStack rows s → IsLawful rows outs 2 (timed_out rows now number s)
   unfolding timed_out

@@ -8,15 +8,9 @@ use Rattle.net_iface.specs.InterfaceFields.{InterfaceFields}
 use Rattle.tcp_rules.specs.Sessions.{End}
 use Rattle.traffic.specs.Progress.{Progress, at_first}
 use Rattle.traffic.specs.Starts.{drawn_start}
+pub use Rattle.host_rules.specs.declared.sockets.Sockets.{Sockets}
 use Rattle.host_rules.specs.declared.rows.HostRows.{HostRows}
 use Rattle.host_rules.specs.declared.rows.HostPort.{HostPort}
-
--- the two ends between which a TCP session runs (RFC 793 section 2.7): the own address and port, and the peer's
-pub record Sockets : Type 0 where
-  pub own : ℕ
-  pub own_port : ℕ
-  pub peer : ℕ
-  pub peer_port : ℕ
 
 -- a TCP session: its number among all that the host ever had, its ends, the client session that opened it, which one that
 -- was accepted has not, and what it keeps

@@ -9,5 +9,7 @@
 
 pub mod laws;
 mod rows;
+mod sockets;
 
 pub use rows::{HostPort, HostRows};
+pub use sockets::Sockets;
