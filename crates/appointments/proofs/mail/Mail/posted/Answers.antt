@@ -1,5 +1,5 @@
 use Rattle.std.proofs.Common.{sym, ap, ◌∙◌}
-use Rattle.appointments.specs.Mails.{ChannelMail, posted_of}
+use Rattle.appointments.specs.Mails.{posted_of}
 use Rattle.appointments.proofs.Rows.{mail_here}
 use Rattle.appointments.proofs.mail.Mail.posted.Goals as goal
 
