@@ -20,5 +20,5 @@ marked_none m p x none is_barrier some = let h = none 0 (ap (λ q. is_cleared cr
 pub marked_more : (f m : ℕ → ℕ) (p : ℕ) (x : Part) (c : ℕ) → Keeps f → Owes f p x → Marked m p x → Marked (put m c (f c)) p x
 marked_more f m p x c kept owed marked is_barrier some = dite (ℕ_discrete 0 c)
     (λ same. let at : put m c (f c) 0 ≡ f c = ap (λ b. cond b (f c) (m 0)) (eq-eqb 0 c same) in let there : f 0 ≡ f c = ap f same in
-        let round = owed 1 (omega arith, inl (sym is_barrier)) in omega arith)
+    let round = owed 1 (omega arith, inl (sym is_barrier)) in omega arith)
     (λ other. let at : put m c (f c) 0 ≡ m 0 = ap (λ b. cond b (f c) (m 0)) (ne_eqb 0 c other) in let h = marked is_barrier (omega arith) in omega arith)

@@ -80,7 +80,7 @@ fn play<R: Wait>(rt: &R, turns: &Turns<Ball>, pass: &mut Pass, place: u32, side:
     ensures pass { IsPassOf ⟦<Ball as Tenant>⟧ turns.now pass.new }
     ensures free { HoldsNone pass.new }
 {
-    let mut left = 1000;
+    let mut left = 1000u32;
     for _ in rt.forever() {
         if left == 0 {
             break;

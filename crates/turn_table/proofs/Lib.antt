@@ -1,7 +1,8 @@
-mod Lookups
+pub mod Lookups
 mod Seats
 mod CellLists
 mod Core
+pub mod Notes
 mod Words
 pub mod Sharing
 mod Moves
