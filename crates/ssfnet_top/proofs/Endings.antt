@@ -5,7 +5,7 @@ use Rattle.sim_base.specs.Outside.{Files, Rose, Appends, AppendsPrefix}
 use Rattle.ssfnet_top.specs.declared.refusal.Refusal.{Refusal}
 use Rattle.ssfnet_top.specs.declared.refusal.Refusal.TheVariants as refusal
 use Rattle.ssfnet_top.specs.Refusals.{status_of, line_of}
-use Rattle.ssfnet_top.specs.Words.{Asked, asked_of_words}
+use Rattle.command_words.specs.Words.{Asked, asked_of_words}
 use Rattle.ssfnet_top.specs.Outcome.{Due, done, refused, refusal_line, AreRead, IsText, IsTreeDue, IsAskedDue, IsOutcome}
 use Rattle.ssfnet_top.specs.Ending.{Outside, IsStopped, IsReached, IsFileReached, Ends, due_of, IsHalt, Answers, IsReadFault, IsTold, IsLineCut, Concerns}
 use Rattle.std.proofs.lemmas.Grind.{common_steps}

@@ -6,6 +6,5 @@ pub mod Naming
 pub mod OneOutcome
 pub mod Pieces
 pub mod RunOutcome
-pub mod Walking
 pub mod Weights
 pub mod Worked

@@ -27,10 +27,10 @@ use Rattle.ssf_model.specs.declared.plan.Plan.{Plan}
 use Rattle.ssf_model.specs.Reaction.{Reaction}
 use Rattle.ssf_model.specs.Run.{machine_of, opening, run_event, run_entries}
 use Rattle.trace_writer.specs.Trace.{trace_text}
-use Rattle.ssfnet_top.specs.declared.command.Command.{Command}
-use Rattle.ssfnet_top.specs.declared.command.Command.TheVariants as commands
+use Rattle.command_words.specs.declared.command.Command.{Command}
+use Rattle.command_words.specs.declared.command.Command.TheVariants as commands
 use Rattle.ssfnet_top.specs.declared.refusal.Refusal.{Refusal}
-use Rattle.ssfnet_top.specs.Words.{Asked, asked_of_words}
+use Rattle.command_words.specs.Words.{Asked, asked_of_words}
 use Rattle.ssfnet_top.specs.Outcome.{Due, done, meant, IsRead, AreRead, resolved_of, shaped, model_of, unless, planned_network, counts_of, IsText, IsNetworkPlan, IsPlanIn, IsPlan, HasEvents, IsWithin, IsOver, IsModelRun, IsPrinted, IsCommandDue, IsTreeDue, IsAskedDue, IsOutcome}
 
 -- a file has one reading
@@ -132,6 +132,7 @@ command_once (commands.Dml true) names tree due other p q = printed_once (resolv
 command_once commands.Check names tree due other p q = text_once (counts_of (resolved_of names tree)) due other p q
 command_once commands.Plan names tree due other p q = plan_once (resolved_of names tree) due other p q
 command_once (commands.Seq until budget) names tree due other p q = model_once until budget (model_of names tree) due other p q
+command_once _ names tree due other p q = absurd p
 
 tree_once : (asked : Asked) (tree : Result Attributes Refusal) (due other : Due) → IsTreeDue asked tree due → IsTreeDue asked tree other → due ≡ other
 tree_once asked (Ok tree) due other p q = command_once asked.command asked.files tree due other p q

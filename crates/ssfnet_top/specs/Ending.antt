@@ -7,13 +7,13 @@ use Rattle.dml_tree.specs.declared.reading.TreeFault.TheVariants as tree_fault
 use Rattle.dml_resolve.specs.declared.resolving.PathFault.{PathFault}
 use Rattle.dml_resolve.specs.declared.resolving.PathFault.TheVariants as path_fault
 use Rattle.net_graph.specs.declared.fault.ShapeFault.TheVariants as shape_fault
-use Rattle.ssfnet_top.specs.declared.command.Command.{Command}
-use Rattle.ssfnet_top.specs.declared.command.Command.TheVariants as commands
+use Rattle.command_words.specs.declared.command.Command.{Command}
+use Rattle.command_words.specs.declared.command.Command.TheVariants as commands
 use Rattle.ssfnet_top.specs.declared.refusal.Refusal.{Refusal}
 use Rattle.ssfnet_top.specs.declared.refusal.Refusal.TheVariants as refusal
 use Rattle.ssfnet_top.specs.Refusals.{status_of}
 use Rattle.ssfnet_top.specs.FilePlaces.{IsPlaced}
-use Rattle.ssfnet_top.specs.Words.{Asked, asked_of_words}
+use Rattle.command_words.specs.Words.{Asked, asked_of_words}
 use Rattle.ssfnet_top.specs.Outcome.{Due, done, refused, refusal_line, file_of_fault, IsFileRead, IsOutcome}
 
 -- a file of this name is one of the command's
@@ -26,18 +26,21 @@ HasBudget (commands.Dml flat) budget = ⊥
 HasBudget commands.Check budget = ⊥
 HasBudget commands.Plan budget = ⊥
 HasBudget (commands.Seq until most) budget = budget ≡ most
+HasBudget _ budget = ⊥
 
 abbrev pub Resolves : Command → Type 0
 Resolves (commands.Dml flat) = flat ≡ true
 Resolves commands.Check = Unit {0}
 Resolves commands.Plan = Unit {0}
 Resolves (commands.Seq until most) = Unit {0}
+Resolves _ = ⊥
 
 abbrev pub HasModel : Command → Type 0
 HasModel (commands.Dml flat) = ⊥
 HasModel commands.Check = Unit {0}
 HasModel commands.Plan = Unit {0}
 HasModel (commands.Seq until most) = Unit {0}
+HasModel _ = ⊥
 
 -- a Net cannot be run yet
 abbrev pub RunsModel : Command → Type 0
@@ -45,6 +48,7 @@ RunsModel (commands.Dml flat) = ⊥
 RunsModel commands.Check = ⊥
 RunsModel commands.Plan = ⊥
 RunsModel (commands.Seq until most) = Unit {0}
+RunsModel _ = ⊥
 
 -- the file is that of the fault, and one of these
 abbrev pub IsFaultOf : List (List ℕ) → List ℕ → PathFault → Type 0

@@ -1,10 +1,6 @@
 pub mod Counts
 pub mod Ending
 pub mod FilePlaces
-pub mod GivenOption
-pub mod Numbers
 pub mod Outcome
 pub mod Refusals
 pub mod Sending
-pub mod WordWalk
-pub mod Words

@@ -30,12 +30,12 @@ use Rattle.ssf_model.specs.declared.plan.Plan.{Plan}
 use Rattle.ssf_model.specs.Reaction.{Reaction}
 use Rattle.ssf_model.specs.Run.{run_event, run_entries}
 use Rattle.trace_writer.specs.Trace.{entries_text, trace_text}
-use Rattle.ssfnet_top.specs.declared.command.Command.{Command}
-use Rattle.ssfnet_top.specs.declared.command.Command.TheVariants as commands
+use Rattle.command_words.specs.declared.command.Command.{Command}
+use Rattle.command_words.specs.declared.command.Command.TheVariants as commands
 use Rattle.ssfnet_top.specs.declared.refusal.Refusal.{Refusal}
 use Rattle.ssfnet_top.specs.declared.refusal.Refusal.TheVariants as refusal
 use Rattle.ssfnet_top.specs.Refusals.{status_of, line_of}
-use Rattle.ssfnet_top.specs.Words.{Asked, asked_of_words}
+use Rattle.command_words.specs.Words.{Asked, asked_of_words}
 use Rattle.ssfnet_top.specs.Counts.{network_line, ring_line}
 
 -- what is due: the status, the bytes on `out`, and those on `err`
@@ -199,6 +199,8 @@ IsCommandDue (commands.Dml true) names tree due = IsPrinted (resolved_of names t
 IsCommandDue commands.Check names tree due = IsText (counts_of (resolved_of names tree)) due
 IsCommandDue commands.Plan names tree due = IsPlan (resolved_of names tree) due
 IsCommandDue (commands.Seq until budget) names tree due = IsModelRun until budget (model_of names tree) due
+-- no words ask for the commands that have not landed
+IsCommandDue _ names tree due = ⊥
 
 abbrev pub IsTreeDue : Asked → Result Attributes Refusal → Due → Type 0
 IsTreeDue asked (Ok tree) due = IsCommandDue asked.command asked.files tree due

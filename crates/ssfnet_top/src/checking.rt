@@ -11,7 +11,8 @@ ghost use Rattle.ssfnet_top.specs.Ending.{Answers, IsOfCommand, IsOfModel};
 
 use crate::resolving::resolve_files;
 use crate::writing::write_answer;
-use crate::{Command, Refusal};
+use crate::Refusal;
+use command_words::Command;
 use dml_tree::Tree;
 use net_build::{RingCounts, ring_counts};
 use net_graph::{HostRow, Network, ShapeFault, is_net};

@@ -3,18 +3,15 @@
 //!
 //! The whole meaning of a call is `IsOutcome` of `specs/Outcome.antt`: from words and the files that
 //! the library tells to the status and the bytes that are due; `specs/Ending.antt` says how a call
-//! ends, measured by that. They cite `specs/Words.antt` (what words ask), `specs/Numbers.antt`
-//! (numbers among them), `specs/FilePlaces.antt` (in which files attributes stand), `specs/Counts.antt`
-//! (the lines of counts) and `specs/Refusals.antt` (statuses and the lines on `err`).
-//! `specs/Sending.antt` is of texts that are sent in pieces, and `specs/WordWalk.antt` of the walk over
-//! the words.
+//! ends, measured by that. They cite the definitions of `command_words` (what words ask),
+//! `specs/FilePlaces.antt` (in which files attributes stand), `specs/Counts.antt` (the lines of counts)
+//! and `specs/Refusals.antt` (statuses and the lines on `err`). `specs/Sending.antt` is of texts that are
+//! sent in pieces.
 #![tactic(auto)]
 
 mod checking;
-mod command;
 mod files;
 pub mod laws;
-mod number;
 mod planning;
 mod printing;
 mod refusal;
@@ -22,11 +19,7 @@ mod resolving;
 mod sending;
 mod seq;
 mod top;
-mod words;
 mod writing;
 
-pub use command::Command;
-pub use number::read_number;
 pub use refusal::Refusal;
 pub use top::offline;
-pub use words::{Request, WordsFault, read_words};

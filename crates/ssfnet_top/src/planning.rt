@@ -10,7 +10,8 @@ ghost use Rattle.ssfnet_top.specs.Ending.{Answers, IsOfCommand, IsOfModel};
 
 use crate::resolving::resolve_files;
 use crate::writing::write_answer;
-use crate::{Command, Refusal};
+use crate::Refusal;
+use command_words::Command;
 use dml_tree::Tree;
 use net_build::{plan_text, ring_text};
 use net_graph::{ShapeFault, is_net};

@@ -7,7 +7,8 @@ ghost use Rattle.ssfnet_top.specs.Ending.{Answers, IsOfCommand, IsOfModel};
 
 use crate::resolving::resolve_files;
 use crate::writing::write_text;
-use crate::{Command, Refusal};
+use crate::Refusal;
+use command_words::Command;
 use dml_tree::{Tree, write};
 use sim_base::Sink;
 use std::alloc::Global;

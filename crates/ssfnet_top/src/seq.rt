@@ -2,7 +2,7 @@
 ghost use Rattle.std.specs.Prelude.{◌≡◌, ◌≤◌, ◌<◌, ◌⊎◌, [], length, map, string_bytes, All, IfOk, IfErr, OnOk, OnErr};
 ghost use Rattle.ring_model.specs.Reacting.{IsRing, AnyPayload, ring_reaction};
 ghost use Rattle.ssf_model.specs.Run.{Fits};
-ghost use Rattle.ssfnet_top.specs.Words.{LatestUntil, LargestBudget};
+ghost use Rattle.command_words.specs.Table.{LatestUntil, LargestBudget};
 ghost use Rattle.sim_base.specs.Outside.{Rose, Appends, AppendsPrefix};
 ghost use Rattle.trace_writer.specs.Trace.{entries_text, trace_text};
 ghost use Rattle.ssfnet_top.specs.Outcome.{model_of, IsRunDue, IsModelRun};
@@ -11,7 +11,8 @@ ghost use Rattle.ssfnet_top.specs.Ending.{Answers, IsOfModel, IsOfCommand};
 
 use crate::resolving::resolve_files;
 use crate::sending::{flush, send_entries};
-use crate::{Command, Refusal};
+use crate::Refusal;
+use command_words::Command;
 use dml_tree::Tree;
 use global_list::{Single, SingleEnd, run_single};
 use net_build::{Built, ring_plan};

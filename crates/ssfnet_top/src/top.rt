@@ -2,7 +2,8 @@
 ghost use Rattle.std.specs.Prelude.{◌≡◌, ◌≤◌, ◌⊎◌, ◌++◌, ◌∷◌, [], None, Some, map, string_bytes, IfOk, IfErr, IfSome, IsErrAnd, OnOk};
 ghost use Rattle.sim_base.specs.Outside.{Rose, Appends, AppendsPrefix};
 ghost use Rattle.ssfnet_top.specs.declared.refusal.Refusal.{Refusal as RefusalValue};
-ghost use Rattle.ssfnet_top.specs.Words.{asked_of_words, IsInRange, MostFiles};
+ghost use Rattle.command_words.specs.Table.{MostFiles};
+ghost use Rattle.command_words.specs.Words.{asked_of_words, IsInRange, IsLanded};
 ghost use Rattle.ssfnet_top.specs.Refusals.{status_of, line_of};
 ghost use Rattle.ssfnet_top.specs.Outcome.{IsCommandDue, IsOutcome, refusal_line};
 ghost use Rattle.ssfnet_top.specs.FilePlaces.{ArePlaced};
@@ -13,8 +14,8 @@ use crate::files::read_files;
 use crate::planning::print_plan;
 use crate::printing::{print_resolved, print_tree};
 use crate::seq::run_model;
-use crate::words::{Request, WordsFault, read_words};
-use crate::{Command, Refusal};
+use crate::Refusal;
+use command_words::{Command, Request, WordsFault, read_words};
 use dml_tree::Tree;
 use sim_base::{Library, Sink, write_all};
 use std::alloc::Global;
@@ -81,7 +82,7 @@ fn answer<L: Library, K: Sink>(
         Err(WordsFault::Words) => return Err(Refusal::Words),
         Err(WordsFault::Memory) => return Err(Refusal::Memory),
     };
-    let Request { command, files } = request;
+    let Request { command, files, .. } = request;
     let names = files.as_slice();
     match read_files(alloc, library, names) {
         Ok(tree) => act(alloc, command, names, &tree, out),
@@ -98,6 +99,7 @@ fn act<K: Sink>(
     out: &mut K,
 ) -> Result<(), Refusal>
     requires range { IsInRange command }
+    requires landed { IsLanded command }
     requires placed { ArePlaced (map string_bytes names.now) tree.now }
     ensures due { Answers (IsCommandDue command (map string_bytes names.now) tree.now) result (K.faults out.old) (K.faults out.new) (K.held out.old) (K.held out.new) }
     ensures cause { IfErr result (λ r. IsOfCommand command (map string_bytes names.now) r) }
@@ -110,6 +112,9 @@ fn act<K: Sink>(
         Command::Check => print_counts(alloc, names, tree, out),
         Command::Plan => print_plan(alloc, names, tree, out),
         Command::Seq { until, budget } => run_model(alloc, until, budget, names, tree, out),
+        Command::Step { .. } => unreachable!(),
+        Command::Run { .. } => unreachable!(),
+        Command::Gen { .. } => unreachable!(),
     }
 }
 

@@ -1,5 +1,5 @@
 use Rattle.std.proofs.Common.{sym, subst, map, string_bytes}
-use Rattle.ssfnet_top.specs.declared.command.Command.{Command}
+use Rattle.command_words.specs.declared.command.Command.{Command}
 use Rattle.ssfnet_top.specs.Outcome.{IsCommandDue}
 use Rattle.ssfnet_top.specs.Ending.{Answers}
 use Rattle.ssfnet_top.proofs.top.act.Goals as goal

@@ -1,12 +1,17 @@
-use Rattle.std.proofs.Common.{ap, map, string_bytes, List, String}
+use Rattle.std.proofs.Common.{ap, map, string_bytes, List, String, option_map}
 use Rattle.std.specs.declared.alloc.Global.{Global}
-use Rattle.ssfnet_top.specs.Words.{Asked}
+use Rattle.command_words.specs.Words.{Asked}
 use Rattle.ssfnet_top.proofs.Endings.{unread_answers}
 use Rattle.ssfnet_top.proofs.top.answer.Goals as goal
 
 pub returns-clause-outcome : goal.returns-clause-outcome
 returns-clause-outcome g c =
-    let asked : Asked = record { command = c.in-Ok.request.command; files = map string_bytes c.in-Ok.request.files.items } in
+    let asked : Asked = record {
+      command = c.in-Ok.request.command;
+      schedule = option_map string_bytes c.in-Ok.request.schedule;
+      report = c.in-Ok.request.report;
+      files = map string_bytes c.in-Ok.request.files.items;
+    } in
     unread_answers (map string_bytes c.args.words.now) asked (map string_bytes c.as_slice-names.result.now) c.in-Ok.ensures.ok
     (ap (λ (l : List (String Global)). map string_bytes l) c.as_slice-names.ensures.value)
     (g.L.Library.files c.args.library.now) c.in-Err.refusal (g.L.Library.faults c.args.library.now) (g.L.Library.faults c.read_files.new.library)

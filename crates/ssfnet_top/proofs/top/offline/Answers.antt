@@ -1,6 +1,6 @@
 use Rattle.std.proofs.Common.{map, string_bytes}
 use Rattle.ssfnet_top.specs.Ending.{Outside}
-use Rattle.ssfnet_top.specs.Words.{asked_of_words}
+use Rattle.command_words.specs.Words.{asked_of_words}
 use Rattle.ssfnet_top.proofs.Endings.{told_refused, told_line}
 use Rattle.ssfnet_top.proofs.top.offline.Goals as goal
 

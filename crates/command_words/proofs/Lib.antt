@@ -1,0 +1,11 @@
+pub mod Asked
+pub mod Lookups
+pub mod Matched
+pub mod Places
+pub mod Rows
+pub mod Steps
+pub mod Tests
+pub mod TheApp
+pub mod Walks
+pub mod WordKinds
+pub mod Worked

@@ -1,0 +1,6 @@
+pub mod Landed
+pub mod Numbers
+pub mod Parsed
+pub mod Schedule
+pub mod Table
+pub mod Words
