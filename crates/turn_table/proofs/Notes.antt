@@ -14,4 +14,4 @@ still_held v p q a e ne some = let same = at_else v.held p 0 a (λ x. ne (omega 
 pub notes_stay : (v : View) (p c q : ℕ) → Speaks v.shape c q → q ≢ p → 0 < held v q → note (giving v p) c ≡ note v c
 notes_stay v p c q says ne some = remembered (λ w. not (is_spoken_for v.shape (at ((p, 0) ∷ v.held)) w)) v.notes c
     (ap not (speaks_for v.shape (at ((p, 0) ∷ v.held)) c
-      (⊎_elim (λ e. inl (still_held v p q (spoken v.shape c).0 e ne some)) (λ e. inr (still_held v p q (spoken v.shape c).1 e ne some)) says.1)))
+    (⊎_elim (λ e. inl (still_held v p q (spoken v.shape c).0 e ne some)) (λ e. inr (still_held v p q (spoken v.shape c).1 e ne some)) says.1)))
