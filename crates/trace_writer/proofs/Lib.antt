@@ -1,2 +1,5 @@
 mod Worked
 pub mod Tallies
+pub mod Merges
+pub mod Nexts
+pub mod Writing

@@ -1,4 +1,6 @@
 pub mod Fields
+pub mod Heads
+pub mod Merging
 pub mod Report
 pub mod Tallying
 pub mod Trace
