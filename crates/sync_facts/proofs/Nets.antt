@@ -1,5 +1,5 @@
 -- The channels between the timelines of a plan are those of its mappings that cross.
-use Rattle.std.proofs.Common.{◌≡◌, ◌⊎◌, ℕ, ◌+◌, ◌<◌, ◌≤◌, Bool, true, false, not, ◌&&◌, nat_eq, nat_lt, min, List, [], ◌∷◌, length, refl, sym, ap, ◌∙◌, subst, inl, inr, arith, Option, Some, None, eqb-true, eq-eqb}
+use Rattle.std.proofs.Common.{◌≡◌, ◌⊎◌, ℕ, ◌<◌, ◌≤◌, Bool, true, false, ◌&&◌, nat_eq, nat_lt, min, List, [], ◌∷◌, length, refl, sym, ap, ◌∙◌, subst, inl, inr, arith, Option, Some, None, eqb-true, eq-eqb}
 use Rattle.event_order.specs.Pending.{Among}
 use Rattle.event_order.proofs.Pending.{test_cases}
 use Rattle.event_order.proofs.Steps.{lt_or_ge}
@@ -11,7 +11,7 @@ use Rattle.ssf_model.specs.Truth.{lesser}
 use Rattle.ssf_model.proofs.Lists.{different}
 use Rattle.run_health.specs.Joined.{IsAligned}
 use Rattle.run_health.proofs.Writers.{one_mapping, writer_low}
-use Rattle.sync_facts.specs.Aligned.{IsCrossIn, IsInside, IsMappingIn, IsAlignedNet}
+use Rattle.sync_facts.specs.Aligned.{IsInside, IsMappingIn, IsAlignedNet}
 use Rattle.sync_facts.specs.Nets.{crosses, is_appointed, is_windowed, at_mapping, least_windowed, net_of}
 
 each_of_all : (Q : Mapping → Type 0) (ms : List Mapping) → ((m : Mapping) → Among m ms → Q m) → Each Q ms

@@ -1,5 +1,5 @@
 -- The run of an aligned plan is one that is shared out.
-use Rattle.std.proofs.Common.{◌≡◌, ◌⊎◌, ℕ, ◌+◌, ◌<◌, ◌≤◌, Bool, true, false, nat_lt, List, length, map, refl, sym, ap, ◌∙◌, subst, inl, inr, arith, Option, Some, None, slice_get}
+use Rattle.std.proofs.Common.{◌≡◌, ◌⊎◌, ℕ, ◌+◌, ◌<◌, ◌≤◌, Bool, true, false, nat_lt, map, sym, ap, ◌∙◌, subst, inl, inr, arith, Some, None, slice_get}
 use Rattle.std.proofs.lemmas.Grind.{common_steps}
 use Rattle.event_order.specs.declared.key.Key.{Key}
 use Rattle.event_order.specs.Pending.{Among}
@@ -8,7 +8,6 @@ use Rattle.event_order.specs.Machine.{within}
 use Rattle.event_order.proofs.Pending.{test_cases}
 use Rattle.event_order.proofs.Steps.{lt_or_ge, le_test}
 use Rattle.ssf_model.specs.declared.event.Event.{Event}
-use Rattle.ssf_model.specs.declared.process.Process.{Process}
 use Rattle.ssf_model.specs.declared.entity.Entity.{Entity}
 use Rattle.ssf_model.specs.declared.plan.Mapping.{Mapping}
 use Rattle.ssf_model.specs.declared.plan.Plan.{Plan}
@@ -16,7 +15,7 @@ use Rattle.ssf_model.specs.Reaction.{Reaction, Validity, KeepsValid, LatestTime,
 use Rattle.ssf_model.specs.Deliver.{IsModest}
 use Rattle.ssf_model.specs.Channels.{delivered_to, timer_of}
 use Rattle.ssf_model.specs.Run.{States, machine_of, opening, run_event, world_after, IsMappingOf, Fits}
-use Rattle.ssf_model.specs.Scene.{Net, Scene, scene_of, channel_of}
+use Rattle.ssf_model.specs.Scene.{Net, Scene, scene_of}
 use Rattle.ssf_model.proofs.Lists.{each_among, within_of, at_mapped, mapped_length}
 use Rattle.ssf_model.proofs.Counts.{writes_rounded}
 use Rattle.run_laws.proofs.Lawful.{known, lawful, opened}
@@ -24,7 +23,7 @@ use Rattle.run_laws.proofs.Opens.{fits_open}
 use Rattle.run_laws.proofs.OfPlans.{plan_cut_ends}
 use Rattle.run_health.specs.Groups.{IsTimerOf}
 use Rattle.run_health.specs.Healthy.{shape, timer_at}
-use Rattle.run_health.specs.Joined.{IsSentAlong, IsWaitBegun, KeepsRounds}
+use Rattle.run_health.specs.Joined.{IsSentAlong, KeepsRounds}
 use Rattle.run_health.proofs.Writers.{timer_some, timer_among, timer_low, mapping_high}
 use Rattle.run_health.proofs.Healths.{delivered_timers, same_timers}
 use Rattle.run_health.proofs.Along.{placed}

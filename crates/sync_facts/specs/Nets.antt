@@ -1,5 +1,5 @@
 -- The channels between the timelines of a plan.
-use Rattle.std.specs.Prelude.{ℕ, Bool, false, cond, not, ◌&&◌, nat_eq, nat_lt, List, [], ◌∷◌, length, Option, Some, None}
+use Rattle.std.specs.Prelude.{ℕ, Bool, false, cond, not, ◌&&◌, nat_eq, nat_lt, List, [], ◌∷◌, length, Option, None}
 use Rattle.ssf_model.specs.declared.plan.Mapping.{Mapping}
 use Rattle.ssf_model.specs.declared.plan.Plan.{Plan}
 use Rattle.ssf_model.specs.Scene.{Net}
