@@ -28,34 +28,35 @@ use Rattle.host_rules.specs.declared.rows.HostPort.{HostPort}
 use Rattle.host_rules.specs.Hosts.{Sockets, Stack}
 use Rattle.host_rules.specs.Effects.{Effect, quiet, telling, and_then}
 use Rattle.host_rules.specs.Sending.{routes_at, own_addresses, second_of, is_down, answered, with_interface, offering, over_link, from_port, next_hop, forwarded, by_verdict, sending, address_of, source_by, source_to, packet_of, done, all_done}
+use Rattle.host_rules.specs.Sources.{IsOwnAddress}
 use Rattle.host_rules.specs.Limits.{AreRows, HasOuts, IsInterfaceOf, AreInterfaces, IsStack}
 use Rattle.host_rules.proofs.Listing.{if_case, each_append, each_at}
 
 -- the host is in range afterwards, and at most so many writes go out, each on a channel of the entity, in time, with a
--- packet in range
-pub record IsLawful (rows : HostRows) (outs : List ℕ) (most : ℕ) (e : Effect) : Type 0 where
+-- packet of which C holds
+pub record IsLawful (rows : HostRows) (C : PacketFields → Type 0) (outs : List ℕ) (most : ℕ) (e : Effect) : Type 0 where
   pub stack : IsStack rows e.stack
-  pub writes : Each (IsOwnWrite IsPacket outs) e.writes
+  pub writes : Each (IsOwnWrite C outs) e.writes
   pub few : length e.writes ≤ most
 
-pub lawful_quiet : (rows : HostRows) (outs : List ℕ) (most : ℕ) (s : Stack) → IsStack rows s → IsLawful rows outs most (quiet s)
-lawful_quiet rows outs most s is = record { stack = is; writes = tt; few = omega arith }
+pub lawful_quiet : (rows : HostRows) (C : PacketFields → Type 0) (outs : List ℕ) (most : ℕ) (s : Stack) → IsStack rows s → IsLawful rows C outs most (quiet s)
+lawful_quiet rows C outs most s is = record { stack = is; writes = tt; few = omega arith }
 
-pub lawful_telling : (rows : HostRows) (outs : List ℕ) (most : ℕ) (line : Line) (s : Stack) → IsStack rows s → IsLawful rows outs most (telling line s)
-lawful_telling rows outs most line s is = record { stack = is; writes = tt; few = omega arith }
+pub lawful_telling : (rows : HostRows) (C : PacketFields → Type 0) (outs : List ℕ) (most : ℕ) (line : Line) (s : Stack) → IsStack rows s → IsLawful rows C outs most (telling line s)
+lawful_telling rows C outs most line s is = record { stack = is; writes = tt; few = omega arith }
 
-pub lawful_more : (rows : HostRows) (outs : List ℕ) (m n : ℕ) (e : Effect) → m ≤ n → IsLawful rows outs m e → IsLawful rows outs n e
-lawful_more rows outs m n e more is = let few = is.few in record { stack = is.stack; writes = is.writes; few = omega (arith, few, more) }
+pub lawful_more : (rows : HostRows) (C : PacketFields → Type 0) (outs : List ℕ) (m n : ℕ) (e : Effect) → m ≤ n → IsLawful rows C outs m e → IsLawful rows C outs n e
+lawful_more rows C outs m n e more is = let few = is.few in record { stack = is.stack; writes = is.writes; few = omega (arith, few, more) }
 
-pub lawful_then : (rows : HostRows) (outs : List ℕ) (m n : ℕ) (e : Effect) (f : Stack → Effect) → IsLawful rows outs m e
-    → ((s : Stack) → IsStack rows s → IsLawful rows outs n (f s)) → IsLawful rows outs (m + n) (and_then e f)
-lawful_then rows outs m n e f is next =
+pub lawful_then : (rows : HostRows) (C : PacketFields → Type 0) (outs : List ℕ) (m n : ℕ) (e : Effect) (f : Stack → Effect) → IsLawful rows C outs m e
+    → ((s : Stack) → IsStack rows s → IsLawful rows C outs n (f s)) → IsLawful rows C outs (m + n) (and_then e f)
+lawful_then rows C outs m n e f is next =
     let then_is = next e.stack is.stack in
     let few = is.few in
     let few_then = then_is.few in
     record {
       stack = then_is.stack;
-      writes = each_append (IsOwnWrite IsPacket outs) e.writes (f e.stack).writes is.writes then_is.writes;
+      writes = each_append (IsOwnWrite C outs) e.writes (f e.stack).writes is.writes then_is.writes;
       few = omega (arith, few, few_then, length-append e.writes (f e.stack).writes);
     }
 
@@ -135,16 +136,16 @@ packet_is sockets segment is = record {
 pub passed_is : (packet : PacketFields) → IsPacket packet → IsPacket (passed_on packet)
 passed_is packet is = record { protocol = is.protocol; segment = is.segment; tcp_bytes = is.tcp_bytes; udp_bytes = is.udp_bytes }
 
-module _ (rows : HostRows) (outs : List ℕ) (ranges : AreRows rows) (ways : Each (HasOuts outs) rows.ports) where
-  answered_lawful : (port : HostPort) (next channel : ℕ) (packet : PacketFields) (o : Offer) (s : Stack) → Among channel outs → IsPacket packet
-      → IfSent o (λ ticks. ticks ≤ LongestDelay) → IsStack rows s → IsLawful rows outs 1 (answered port next channel packet o s)
+module _ (rows : HostRows) (C : PacketFields → Type 0) (outs : List ℕ) (ranges : AreRows rows) (ways : Each (HasOuts outs) rows.ports) where
+  answered_lawful : (port : HostPort) (next channel : ℕ) (packet : PacketFields) (o : Offer) (s : Stack) → Among channel outs → C packet
+      → IfSent o (λ ticks. ticks ≤ LongestDelay) → IsStack rows s → IsLawful rows C outs 1 (answered port next channel packet o s)
   answered_lawful port next channel packet (Sent ticks) s among carried short is = record { stack = is; writes = ((among, short, carried), tt); few = omega arith }
   answered_lawful port next channel packet Dropped s among carried short is = record { stack = is; writes = tt; few = omega arith }
 
   offering_lawful : (port : HostPort) (place next channel now : ℕ) (packet : PacketFields) (i : Option InterfaceFields) (s : Stack) → slice_get s.interfaces place ≡ i
-      → slice_get rows.ports place ≡ Some port → Among channel outs → IsPacket packet → now ≤ LatestTime → IsStack rows s
-      → IsLawful rows outs 1 (offering port place next channel now packet i s)
-  offering_lawful port place next channel now packet None s e at among carried early is = lawful_telling rows outs 1 _ s is
+      → slice_get rows.ports place ≡ Some port → Among channel outs → C packet → now ≤ LatestTime → IsStack rows s
+      → IsLawful rows C outs 1 (offering port place next channel now packet i s)
+  offering_lawful port place next channel now packet None s e at among carried early is = lawful_telling rows C outs 1 _ s is
   offering_lawful port place next channel now packet (Some i) s e at among carried early is =
       let rated = each_at (λ (p : HostPort). IsRated p.bitrate rows.tcp.frequency p.buffer) rows.ports place port ranges.ports at in
       let of_port = interface_at rows.tcp.frequency rows.ports s.interfaces place port i is.interfaces at e in
@@ -153,54 +154,55 @@ module _ (rows : HostRows) (outs : List ℕ) (ranges : AreRows rows) (ways : Eac
       (offered_short i packet.bytes now (as_interface rows.tcp.frequency port i rated of_port)) (interface_stack rows s place port (after_offer i packet.bytes now) is at after)
 
   over_link_lawful : (port : HostPort) (place next now : ℕ) (packet : PacketFields) (channel : Option ℕ) (s : Stack) → second_of port.outs next ≡ channel
-      → slice_get rows.ports place ≡ Some port → IsPacket packet → now ≤ LatestTime → IsStack rows s → IsLawful rows outs 1 (over_link port place next now packet channel s)
-  over_link_lawful port place next now packet None s e at carried early is = lawful_telling rows outs 1 _ s is
+      → slice_get rows.ports place ≡ Some port → C packet → now ≤ LatestTime → IsStack rows s → IsLawful rows C outs 1 (over_link port place next now packet channel s)
+  over_link_lawful port place next now packet None s e at carried early is = lawful_telling rows C outs 1 _ s is
   over_link_lawful port place next now packet (Some channel) s e at carried early is =
       let among = second_among outs port.outs next channel (each_at (HasOuts outs) rows.ports place port ways at) e in
-      if_case (λ (f : Effect). IsLawful rows outs 1 f) (is_down port now)
-      (λ t. lawful_telling rows outs 1 _ s is)
+      if_case (λ (f : Effect). IsLawful rows C outs 1 f) (is_down port now)
+      (λ t. lawful_telling rows C outs 1 _ s is)
       (λ t. offering_lawful port place next channel now packet (slice_get s.interfaces place) s refl at among carried early is)
 
   from_port_lawful : (port : Option HostPort) (place next now : ℕ) (packet : PacketFields) (s : Stack) → slice_get rows.ports place ≡ port
-      → IsPacket packet → now ≤ LatestTime → IsStack rows s → IsLawful rows outs 1 (from_port port place next now packet s)
-  from_port_lawful None place next now packet s at carried early is = lawful_telling rows outs 1 _ s is
+      → C packet → now ≤ LatestTime → IsStack rows s → IsLawful rows C outs 1 (from_port port place next now packet s)
+  from_port_lawful None place next now packet s at carried early is = lawful_telling rows C outs 1 _ s is
   from_port_lawful (Some port) place next now packet s at carried early is =
       over_link_lawful port place next now packet (second_of port.outs next) s refl at carried early is
 
-  forwarded_lawful : (route : Route) (now : ℕ) (packet : PacketFields) (s : Stack) → IsPacket packet → now ≤ LatestTime → IsStack rows s
-      → IsLawful rows outs 1 (forwarded rows route now packet s)
+  forwarded_lawful : (route : Route) (now : ℕ) (packet : PacketFields) (s : Stack) → C packet → now ≤ LatestTime → IsStack rows s
+      → IsLawful rows C outs 1 (forwarded rows route now packet s)
   unfolding forwarded
   forwarded_lawful route now packet s carried early is =
       from_port_lawful (slice_get rows.ports route.interface) route.interface (next_hop route packet) now packet s refl carried early is
 
-  pub verdict_lawful : (routes : List Route) (now : ℕ) (packet : PacketFields) (v : Verdict) (s : Stack) → IsPacket packet → now ≤ LatestTime → IsStack rows s
-      → IsLawful rows outs 1 (by_verdict rows routes now packet v s)
-  verdict_lawful routes now packet Local s carried early is = lawful_quiet rows outs 1 s is
+  pub verdict_lawful : (routes : List Route) (now : ℕ) (packet : PacketFields) (v : Verdict) (s : Stack) → C packet → now ≤ LatestTime → IsStack rows s
+      → IsLawful rows C outs 1 (by_verdict rows routes now packet v s)
+  verdict_lawful routes now packet Local s carried early is = lawful_quiet rows C outs 1 s is
   verdict_lawful routes now packet (Forward place) s carried early is = forwarded_lawful (route_at routes place) now packet s carried early is
-  verdict_lawful routes now packet (DroppedBy reason) s carried early is = lawful_telling rows outs 1 _ s is
+  verdict_lawful routes now packet (DroppedBy reason) s carried early is = lawful_telling rows C outs 1 _ s is
 
-  pub sending_lawful : (now : ℕ) (packet : PacketFields) (s : Stack) → IsPacket packet → now ≤ LatestTime → IsStack rows s → IsLawful rows outs 1 (sending rows now packet s)
+  pub sending_lawful : (now : ℕ) (packet : PacketFields) (s : Stack) → C packet → now ≤ LatestTime → IsStack rows s → IsLawful rows C outs 1 (sending rows now packet s)
   unfolding sending
   sending_lawful now packet s carried early is =
       verdict_lawful (routes_at rows s now) now packet (sent (own_addresses rows) (routes_at rows s now) packet) s carried early is
 
   -- all that a rule did
-  pub all_done_lawful : (now : ℕ) (sockets : Sockets) (acts : List Act) (s : Stack) → EachSegment IsSegment (sent_of acts) → now ≤ LatestTime → IsStack rows s
-      → IsLawful rows outs (length (sent_of acts)) (all_done rows now sockets acts s)
-  all_done_lawful now sockets [] s are early is = lawful_quiet rows outs 0 s is
-  all_done_lawful now sockets (Entered state ∷ acts) s are early is =
-      lawful_more rows outs (0 + length (sent_of acts)) (length (sent_of acts)) (all_done rows now sockets (Entered state ∷ acts) s) (omega arith)
-      (lawful_then rows outs 0 (length (sent_of acts)) (done rows now sockets (Entered state) s) (all_done rows now sockets acts) (lawful_telling rows outs 0 _ s is)
-      (λ t k. all_done_lawful now sockets acts t are early k))
-  all_done_lawful now sockets (Delivered bytes ∷ acts) s are early is =
-      lawful_more rows outs (0 + length (sent_of acts)) (length (sent_of acts)) (all_done rows now sockets (Delivered bytes ∷ acts) s) (omega arith)
-      (lawful_then rows outs 0 (length (sent_of acts)) (done rows now sockets (Delivered bytes) s) (all_done rows now sockets acts) (lawful_telling rows outs 0 _ s is)
-      (λ t k. all_done_lawful now sockets acts t are early k))
-  all_done_lawful now sockets (Send segment ∷ acts) s are early is =
-      lawful_more rows outs (1 + length (sent_of acts)) (length (sent_of (Send segment ∷ acts))) (all_done rows now sockets (Send segment ∷ acts) s) (omega arith)
-      (lawful_then rows outs 1 (length (sent_of acts)) (done rows now sockets (Send segment) s) (all_done rows now sockets acts)
-      (sending_lawful now (packet_of sockets segment) s (packet_is sockets segment are.0) early is)
-      (λ t k. all_done_lawful now sockets acts t are.1 early k))
+  pub all_done_lawful : (makes : (packet : PacketFields) → IsPacket packet → IsOwnAddress rows packet.src → C packet) (now : ℕ) (sockets : Sockets) (acts : List Act) (s : Stack)
+      → IsOwnAddress rows sockets.own → EachSegment IsSegment (sent_of acts) → now ≤ LatestTime → IsStack rows s → IsLawful rows C outs (length (sent_of acts)) (all_done rows now sockets acts s)
+  all_done_lawful makes now sockets [] s own are early is = lawful_quiet rows C outs 0 s is
+  all_done_lawful makes now sockets (Entered state ∷ acts) s own are early is =
+      lawful_more rows C outs (0 + length (sent_of acts)) (length (sent_of acts)) (all_done rows now sockets (Entered state ∷ acts) s) (omega arith)
+      (lawful_then rows C outs 0 (length (sent_of acts)) (done rows now sockets (Entered state) s) (all_done rows now sockets acts) (lawful_telling rows C outs 0 _ s is)
+      (λ t k. all_done_lawful makes now sockets acts t own are early k))
+  all_done_lawful makes now sockets (Delivered bytes ∷ acts) s own are early is =
+      lawful_more rows C outs (0 + length (sent_of acts)) (length (sent_of acts)) (all_done rows now sockets (Delivered bytes ∷ acts) s) (omega arith)
+      (lawful_then rows C outs 0 (length (sent_of acts)) (done rows now sockets (Delivered bytes) s) (all_done rows now sockets acts) (lawful_telling rows C outs 0 _ s is)
+      (λ t k. all_done_lawful makes now sockets acts t own are early k))
+  all_done_lawful makes now sockets (Send segment ∷ acts) s own are early is =
+      let packet = packet_of sockets segment in
+      lawful_more rows C outs (1 + length (sent_of acts)) (length (sent_of (Send segment ∷ acts))) (all_done rows now sockets (Send segment ∷ acts) s) (omega arith)
+      (lawful_then rows C outs 1 (length (sent_of acts)) (done rows now sockets (Send segment) s) (all_done rows now sockets acts)
+      (sending_lawful now packet s (makes packet (packet_is sockets segment are.0) own) early is)
+      (λ t k. all_done_lawful makes now sockets acts t own are.1 early k))
 
 -- The own address of what a host sends is one of its own, or 0.
 own_if : (rows : HostRows) (a : ℕ) → has_address (own_addresses rows) a ≡ true → (nat_eq a 0 || has_address (own_addresses rows) a) ≡ true

@@ -6,3 +6,4 @@ pub mod Hearing
 pub mod Reacting
 pub mod Limits
 pub mod Between
+pub mod Sources

@@ -4,12 +4,13 @@ ghost use Rattle.std.specs.Option.{option_or};
 ghost use Rattle.ssf_model.specs.declared.wait.Wait.{Wait};
 ghost use Rattle.ssf_model.specs.declared.wait.Wait.TheVariants.{Forever};
 ghost use Rattle.ssf_model.specs.declared.wait.Wake.{Wake};
-ghost use Rattle.ssf_model.specs.Reaction.{KeepsValid};
+ghost use Rattle.ssf_model.specs.Reaction.{Each, Carries, LatestTime, KeepsValid};
 ghost use Rattle.ssf_model.specs.Deliver.{IsModest};
 ghost use Rattle.ip_layer.specs.Packets.{PacketFields, IsPacket};
 ghost use Rattle.host_rules.specs.declared.rows.HostRows.{HostRows};
 ghost use Rattle.host_rules.specs.Hosts.{Sockets, EntryFields, Stack, HostFields, first_host};
 ghost use Rattle.host_rules.specs.Entries.{found};
+ghost use Rattle.host_rules.specs.Sources.{IsFrom, Brings};
 ghost use Rattle.host_rules.specs.Between.{accepted_between, opened_between};
 ghost use Rattle.host_rules.specs.Reacting.{roles, is_timed_role, host_reaction};
 ghost use Rattle.host_rules.specs.Limits.{EachPair, AreRows, MostTransfers, AreWaits, IsPlaced, IsEarlier, IsStack, IsHost};
@@ -48,4 +49,11 @@ pub fn accepted_sessions_come_first()
 pub fn sessions_are_few()
     ensures opened { (rows : HostRows) (s : Stack) → AreRows rows → IsStack rows s → s.opened ≤ MostTransfers }
     ensures sessions { (rows : HostRows) (s : Stack) → AreRows rows → IsStack rows s → length s.sessions ≤ 1050000 }
+{}
+
+/// Each packet that a valid host writes has one of the host's addresses as its source, or 0, or it is
+/// the packet that came, passed on with a lower time to live.
+pub fn hosts_send_by_their_own_addresses()
+    ensures { (s : HostFields) (ins outs : List ℕ) (timed : List Bool) (waits : List Wait) (i now : ℕ) (wake : Wake PacketFields)
+        → IsHost s ins outs timed waits → Carries IsPacket wake → now ≤ LatestTime → Each (Brings (IsFrom s.rows wake)) (host_reaction s i now wake).writes }
 {}

@@ -4,7 +4,8 @@
 //!
 //! Contracts cite `specs/Hosts.antt` (what a host keeps), `specs/Effects.antt`, `specs/Sending.antt`,
 //! `specs/Entries.antt`, `specs/Hearing.antt` and `specs/Reacting.antt` (what it does), and
-//! `specs/Limits.antt` (its valid states).
+//! `specs/Limits.antt` (its valid states). [`laws`] speaks of `specs/Between.antt` (sessions between two
+//! ends) and `specs/Sources.antt` (where the packets come from that a host writes) besides.
 #![tactic(auto)]
 
 pub mod laws;
