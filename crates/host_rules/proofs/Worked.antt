@@ -24,7 +24,7 @@ use Rattle.ip_layer.specs.Packets.{PacketFields}
 use Rattle.ip_layer.specs.Forwarding.{best_route, sent, received}
 use Rattle.tcp_clock.specs.Retransmission.{first_timeout, sampled}
 use Rattle.tcp_clock.specs.Congestion.{first_window, grown}
-use Rattle.tcp_rules.specs.Clients.{opened, at_opening, at_syn_ack, sent as sent_out, data_stop, data_count, fin_sent, edge, measured, timing_at_send, deadline_at, at_later, at_plain, heard as heard_by, at_ack, at_new_ack, at_last_fin, at_client_timeout}
+use Rattle.tcp_rules.specs.Clients.{opened, at_opening, at_syn_ack, sent as sent_out, data_stop, data_count, fin_sent, edge, measured, timing_at_send, deadline_at, at_later, at_plain, at_acknowledgment, at_ack, at_new_ack, at_last_fin, at_client_timeout}
 use Rattle.tcp_rules.specs.Servers.{listened, at_start, at_data, kept_with, fin_with, added, at_kept, hole, at_end, at_last}
 use Rattle.tcp_rules.specs.Sessions.{connecting, accepting}
 use Rattle.traffic.specs.Progress.{at_first, next_server, after_next}
@@ -285,7 +285,7 @@ a_transfer_goes_to_its_end : told (trail 60 (opening (planned {P = PacketFields}
     ∷ server_enters Closed
     ∷ client_enters Closed
     ∷ []
-unfolding trail machine_of comes_before planned starts_of drawn_start at_first host_reaction routes_at own_addresses is_down forwarded sending source_to best_route sent received offered after_offer next_server after_next arrived with_poke heard clock_wait least transfer_sockets next_transfer tcp_turn connecting opened first_timeout first_window tcp_arrived may_accept found accepting listened turned settled next_after at_opening at_syn_ack sent_out data_stop data_count fin_sent edge measured timing_at_send deadline_at sampled at_later at_plain heard_by at_ack at_new_ack grown at_last_fin at_start at_data kept_with fin_with added at_kept hole at_end at_last ticked timed_out due numbered at_client_timeout
+unfolding trail machine_of comes_before planned starts_of drawn_start at_first host_reaction routes_at own_addresses is_down forwarded sending source_to best_route sent received offered after_offer next_server after_next arrived with_poke heard clock_wait least transfer_sockets next_transfer tcp_turn connecting opened first_timeout first_window tcp_arrived may_accept found accepting listened turned settled next_after at_opening at_syn_ack sent_out data_stop data_count fin_sent edge measured timing_at_send deadline_at sampled at_later at_plain at_acknowledgment at_ack at_new_ack grown at_last_fin at_start at_data kept_with fin_with added at_kept hole at_end at_last ticked timed_out due numbered at_client_timeout
 a_transfer_goes_to_its_end = refl
 
 -- Three packets offered at once to an interface with a buffer of 2,000 bytes: the second finds no room.
