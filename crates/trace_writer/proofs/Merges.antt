@@ -1,25 +1,18 @@
 -- Merging: of what is left of several histories the least is one of the entries that come next.
-use Rattle.std.proofs.Common.{◌≡◌, subst, ℕ, zero, suc, ◌+◌, ◌<◌, ◌≤◌, ◌≢◌, ◌⊎◌, Bool, true, false, cond, nat_eq, nat_lt, eqb, List, [], ◌∷◌, ◌++◌, length, drop, append_assoc, Option, Some, None, slice_get, refl, sym, ◌∙◌, ap, inl, inr, arith, ⊎_elim}
-use Rattle.std.specs.List.{filter, sum_by, slice_index_or, Contains, AllByRecursion}
-use Rattle.std.specs.List.Sorted.{IsPermutation}
+use Rattle.std.proofs.Common.{◌≡◌, subst, ℕ, zero, suc, ◌<◌, ◌≤◌, ◌⊎◌, Bool, true, false, cond, nat_eq, nat_lt, List, [], ◌∷◌, ◌++◌, drop, append_assoc, Some, slice_get, refl, sym, ◌∙◌, ap, inl, inr, arith, ⊎_elim}
 use Rattle.std.specs.Ordering.{nat_cmp, is_lt, ordering_then, ordering_reverse}
 use Rattle.std.specs.declared.cmp.Ordering.{Ordering}
 use Rattle.std.specs.declared.cmp.Ordering.TheVariants.{Less, Equal, Greater}
-use Rattle.std.specs.declared.cmp.Reverse.{Reverse}
-use Rattle.std.specs.BinaryHeap.{IsUpperBound}
-use Rattle.std.proofs.lemmas.Bool.{cases_eq, eq-eqb, ne_eqb, ltb-true, lt-ltb, cases_lt}
-use Rattle.std.proofs.lemmas.List.Sums.{sum_by-cons, sum_by-append}
-use Rattle.std.proofs.lemmas.List.Sorted.{Contains-permutation, sum_by-IsPermutation, IsPermutation-sym}
+use Rattle.std.proofs.lemmas.Bool.{eq-eqb, ne_eqb, ltb-true, lt-ltb, cases_lt}
 use Rattle.event_order.specs.declared.key.Key.{Key}
 use Rattle.event_order.specs.Order.{comes_before, IsBefore, key_cmp}
 use Rattle.event_order.specs.Pending.{Among, put, put_all}
-use Rattle.event_order.proofs.Order.{before_trans, before_cases, before_irrefl, before_asym, earlier, key_cmp_total}
-use Rattle.event_order.proofs.Pending.{test_cases, append_among, among_append_left, among_append_right, among_filter, filter_among, put_all_among}
+use Rattle.event_order.proofs.Order.{before_trans, before_cases, before_irrefl, earlier, key_cmp_total}
+use Rattle.event_order.proofs.Pending.{test_cases, append_among, filter_among, put_all_among}
 use Rattle.ssf_model.specs.declared.event.Entry.{Entry}
-use Rattle.ssf_model.proofs.Lists.{place_of, place_among, within_of}
 use Rattle.trace_writer.specs.declared.heads.Head.{Head}
 use Rattle.trace_writer.specs.Merging.{IsInOrder, entries_before, in_key_order}
-use Rattle.trace_writer.specs.Heads.{head_cmp, head_order, head_of, head_at, entry_at, left_from, left_in_order, moved, is_of, IsHead, AreHeads}
+use Rattle.trace_writer.specs.Heads.{head_cmp, left_from, moved}
 
 -- ---- keys
 

@@ -1,22 +1,22 @@
 -- The heap of the entries that come next: what a head more and a head less leave of it.
-use Rattle.std.proofs.Common.{◌≡◌, subst, ℕ, zero, suc, ◌+◌, ◌<◌, ◌≤◌, ◌⊎◌, Bool, true, false, cond, nat_eq, nat_lt, List, [], ◌∷◌, ◌++◌, length, drop, Option, Some, None, slice_get, refl, sym, ◌∙◌, ap, inl, inr, arith, ⊎_elim}
+use Rattle.std.proofs.Common.{◌≡◌, subst, ℕ, zero, suc, ◌+◌, ◌<◌, ◌≤◌, Bool, true, false, cond, nat_lt, List, [], ◌∷◌, ◌++◌, length, drop, Option, Some, None, slice_get, refl, sym, ◌∙◌, ap, inl, inr, arith, ⊎_elim}
 use Rattle.std.specs.List.{sum_by, slice_index_or, Contains, AllByRecursion}
 use Rattle.std.specs.List.Sorted.{IsPermutation}
 use Rattle.std.specs.Ordering.{is_lt}
 use Rattle.std.specs.declared.cmp.Reverse.{Reverse}
 use Rattle.std.specs.BinaryHeap.{IsUpperBound}
-use Rattle.std.proofs.lemmas.Bool.{cases_eq, eq-eqb, ne_eqb, cases_lt}
+use Rattle.std.proofs.lemmas.Bool.{cases_eq, eq-eqb, ne_eqb}
 use Rattle.std.proofs.lemmas.List.Sums.{sum_by-cons, sum_by-append}
 use Rattle.std.proofs.lemmas.List.Sorted.{Contains-permutation, sum_by-IsPermutation, IsPermutation-sym}
 use Rattle.event_order.specs.Order.{comes_before, IsBefore}
 use Rattle.event_order.specs.Pending.{Among}
 use Rattle.event_order.proofs.Pending.{test_cases, append_among, among_append_left, among_append_right}
 use Rattle.ssf_model.specs.declared.event.Entry.{Entry}
-use Rattle.ssf_model.proofs.Lists.{place_of, place_among, within_of}
+use Rattle.ssf_model.proofs.Lists.{place_among, within_of}
 use Rattle.trace_writer.specs.declared.heads.Head.{Head}
 use Rattle.trace_writer.specs.Merging.{IsInOrder, in_key_order}
-use Rattle.trace_writer.specs.Heads.{head_cmp, head_order, head_of, head_at, entry_at, left_from, left_in_order, moved, is_of, IsHead, AreHeads}
-use Rattle.trace_writer.proofs.Merges.{before_then, late_then, head_key, head_history, least_first, IsFirstOf, first_of, after_of, IsLeft, left_of, IsMoved, is_moved, IsSplit, split_left}
+use Rattle.trace_writer.specs.Heads.{head_cmp, head_order, head_of, head_at, entry_at, left_from, left_in_order, is_of, IsHead, AreHeads}
+use Rattle.trace_writer.proofs.Merges.{before_then, late_then, head_key, head_history, least_first, first_of, after_of, IsLeft, left_of, IsMoved, split_left}
 
 -- ---- lists
 

@@ -1,5 +1,5 @@
 -- Texts appended piece by piece, and how far merged histories were written.
-use Rattle.std.proofs.Common.{◌≡◌, subst, ℕ, zero, suc, ◌+◌, ◌-◌, ◌<◌, ◌≤◌, ◌⊎◌, Bool, true, false, cond, nat_lt, List, [], ◌∷◌, ◌++◌, length, length-append, take, drop, max, Result, Ok, Err, OnErr, append_assoc, Option, Some, None, IfSome, slice_get, refl, sym, ◌∙◌, ap, inl, inr, arith, ⊎_elim}
+use Rattle.std.proofs.Common.{◌≡◌, subst, ℕ, zero, suc, ◌+◌, ◌<◌, ◌≤◌, ◌⊎◌, Bool, true, false, nat_lt, List, [], ◌∷◌, ◌++◌, length, length-append, take, drop, max, Result, Ok, Err, OnErr, append_assoc, Option, Some, None, IfSome, slice_get, refl, sym, ◌∙◌, ap, inl, inr, arith, ⊎_elim}
 use Rattle.std.specs.List.{filter, flat_map, fold, slice_index_or}
 use Rattle.std.specs.List.Sorted.{IsPermutation}
 use Rattle.std.specs.declared.cmp.Reverse.{Reverse}
@@ -11,21 +11,20 @@ use Rattle.std.proofs.lemmas.List.Elements.{filter-append}
 use Rattle.std.proofs.lemmas.List.Sorted.{IsPermutation-sym}
 use Rattle.std.proofs.Math.Seq.{take-append-add}
 use Rattle.sim_base.specs.Outside.{Appends, AppendsPrefix}
-use Rattle.event_order.specs.declared.key.Key.{Key}
-use Rattle.event_order.specs.Order.{comes_before, IsBefore}
+use Rattle.event_order.specs.Order.{comes_before}
 use Rattle.event_order.specs.Pending.{Among, put, put_all, IsRising, IsApart}
 use Rattle.event_order.proofs.Order.{before_asym}
-use Rattle.event_order.proofs.Pending.{test_cases, append_among, among_append_left, among_append_right, among_filter, filter_among, put_all_among, among_put_all_self, put_all_rises, filter_apart}
+use Rattle.event_order.proofs.Pending.{test_cases, among_append_right, among_filter, filter_among, put_all_among, among_put_all_self, put_all_rises, filter_apart}
 use Rattle.ssf_model.specs.declared.event.Entry.{Entry}
 use Rattle.ssf_model.specs.declared.event.Line.{Line}
 use Rattle.ssf_model.specs.declared.event.Names.{Names}
-use Rattle.ssf_model.proofs.Lists.{place_among, within_of}
+use Rattle.ssf_model.proofs.Lists.{within_of}
 use Rattle.trace_writer.specs.declared.heads.Head.{Head}
 use Rattle.trace_writer.specs.Report.{events_of}
-use Rattle.trace_writer.specs.Trace.{action_line, entries_text, event_line, name_of, record_text}
+use Rattle.trace_writer.specs.Trace.{action_line, entries_text, event_line, record_text}
 use Rattle.trace_writer.specs.Merging.{CanMerge, IsInOrder, entries_before, in_key_order, longest_name, merged}
-use Rattle.trace_writer.specs.Heads.{head_at, head_order, left_from, left_in_order, moved, IsHead, AreHeads}
-use Rattle.trace_writer.proofs.Merges.{IsMoved, is_moved}
+use Rattle.trace_writer.specs.Heads.{head_at, head_order, left_from, left_in_order, moved, AreHeads}
+use Rattle.trace_writer.proofs.Merges.{is_moved}
 use Rattle.trace_writer.proofs.Nexts.{among_moved, heads_more, others_left, taken_least, nothing_left}
 
 -- ---- texts

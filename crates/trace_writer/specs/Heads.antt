@@ -1,5 +1,5 @@
 -- How far several histories were written, and which entry of each comes next. No public clause cites this file.
-use Rattle.std.specs.Prelude.{ℕ, zero, suc, ◌≡◌, ◌+◌, ◌<◌, ◌≤◌, nat_eq, nat_lt, cond, Bool, true, List, [], ◌∷◌, ◌++◌, drop, Option, None, Some, slice_get}
+use Rattle.std.specs.Prelude.{ℕ, suc, ◌≡◌, ◌<◌, ◌≤◌, nat_eq, nat_lt, cond, true, List, [], ◌∷◌, ◌++◌, drop, Option, None, Some, slice_get}
 use Rattle.std.specs.List.{sum_by}
 use Rattle.std.specs.Ordering.{nat_cmp, ordering_then}
 use Rattle.std.specs.declared.cmp.Ordering.{Ordering}

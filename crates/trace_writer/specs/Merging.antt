@@ -1,5 +1,5 @@
 -- Several histories as one list, in the order of their keys.
-use Rattle.std.specs.Prelude.{ℕ, ◌≡◌, ◌+◌, ◌<◌, ◌≤◌, nat_lt, false, List, [], ◌∷◌, length, map, max}
+use Rattle.std.specs.Prelude.{ℕ, ◌≡◌, ◌+◌, ◌<◌, ◌≤◌, nat_lt, false, List, [], ◌∷◌, length, max}
 use Rattle.std.specs.List.{filter, fold}
 use Rattle.event_order.specs.Order.{comes_before}
 use Rattle.event_order.specs.Pending.{Among, put_all}

@@ -1,5 +1,4 @@
-use Rattle.std.proofs.Common.{subst, sym, refl, arith, length}
-use Rattle.std.specs.Option.{MatchOption}
+use Rattle.std.proofs.Common.{refl, arith, length}
 use Rattle.std.specs.BinaryHeap.{heap_items}
 use Rattle.trace_writer.proofs.Writing.{head_sound, head_within, next_step, none_step}
 use Rattle.trace_writer.proofs.heads.take_next.Goals as goal

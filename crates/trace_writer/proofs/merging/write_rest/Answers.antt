@@ -5,13 +5,13 @@ use Rattle.trace_writer.proofs.merging.write_rest.Goals as goal
 
 pub loop-entry-init : goal.loop-entry-init
 loop-entry-init g c = record {
-    written = written_none c.args.names.now (g.H.Histories.lists c.args.histories.now) c.args.below (heap_items c.args.heads.now) (g.K.Sink.held c.args.sink.now) c.requires.heads;
-    heap = c.requires.heap;
-    room = c.requires.room;
-    faults = omega arith;
-    capacity = omega arith;
-    places = omega arith;
-  }
+  written = written_none c.args.names.now (g.H.Histories.lists c.args.histories.now) c.args.below (heap_items c.args.heads.now) (g.K.Sink.held c.args.sink.now) c.requires.heads;
+  heap = c.requires.heap;
+  room = c.requires.room;
+  faults = omega arith;
+  capacity = omega arith;
+  places = omega arith;
+}
 
 pub write_record-requires-clause-named : goal.write_record-requires-clause-named
 write_record-requires-clause-named g c =
@@ -26,7 +26,7 @@ returns-in_err-write_record-clause-part g c =
 pub overflow_add-count : goal.overflow_add-count
 overflow_add-count g c =
     let less = next_count c.args.names.now (g.H.Histories.lists c.args.histories.now) c.args.below (heap_items c.loop-entry.heads) (heap_items c.take_next.new.heap) (g.K.Sink.held c.args.sink.now) (g.K.Sink.held c.loop-entry.sink) c.loop-entry.count c.in-Some.entry.now
-        c.loop-entry.invariant.written c.in-Some.ensures.next in
+    c.loop-entry.invariant.written c.in-Some.ensures.next in
     let short = merged_short (g.H.Histories.lists c.args.histories.now) c.args.below in
     let few = c.requires.histories.few in
     omega arith
@@ -43,11 +43,11 @@ loop-entry-preserved g c =
     let line = c.write_record.ensures.capacity in
     let never = c.write_record.ensures.never_falls in
     record {
-        written = next_written c.args.names.now (g.H.Histories.lists c.args.histories.now) c.args.below (heap_items c.loop-entry.heads) (heap_items c.take_next.new.heap) (g.K.Sink.held c.args.sink.now) (g.K.Sink.held c.loop-entry.sink) (g.K.Sink.held c.write_record.new.sink)
-            c.loop-entry.count c.in-Some.entry.now c.loop-entry.invariant.written c.in-Some.ensures.next c.in_ok-write_record.ensures.text;
-        heap = c.take_next.ensures.heap;
-        room = omega arith;
-        faults = omega arith;
-        capacity = omega arith;
-        places = omega arith;
+      written = next_written c.args.names.now (g.H.Histories.lists c.args.histories.now) c.args.below (heap_items c.loop-entry.heads) (heap_items c.take_next.new.heap) (g.K.Sink.held c.args.sink.now) (g.K.Sink.held c.loop-entry.sink) (g.K.Sink.held c.write_record.new.sink)
+          c.loop-entry.count c.in-Some.entry.now c.loop-entry.invariant.written c.in-Some.ensures.next c.in_ok-write_record.ensures.text;
+      heap = c.take_next.ensures.heap;
+      room = omega arith;
+      faults = omega arith;
+      capacity = omega arith;
+      places = omega arith;
     }
