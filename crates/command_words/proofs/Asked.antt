@@ -1,5 +1,5 @@
 -- What words in the table ask, and that it lies in its ranges.
-use Rattle.std.proofs.Common.{ℕ, ◌≡◌, ◌∙◌, ◌≤◌, ap, refl, sym, subst, codes, true, false, not, List, [], ◌∷◌, Some, None, Option, Bool, cond, ◌&&◌, ◌||◌, nat_le, drop, length, slice_get, option_map, IfSome, true≢false, leb-true, arith, is_some, if◌then◌else◌, Result, Ok, Err, IfOk}
+use Rattle.std.proofs.Common.{ℕ, ◌≡◌, ◌∙◌, ◌≤◌, ap, refl, sym, subst, codes, true, false, List, [], ◌∷◌, Some, None, Option, Bool, ◌&&◌, nat_le, drop, length, slice_get, option_map, IfSome, true≢false, leb-true, arith, is_some, if◌then◌else◌, Result, Ok, Err, IfOk}
 use Rattle.std.specs.List.{list_all}
 use Rattle.std.specs.Option.{unwrap_or}
 use Rattle.std.proofs.lemmas.Slice.Eq.{bytes_eq-Decides}
@@ -13,10 +13,9 @@ use Rattle.command_words.specs.declared.name.CommandName.{CommandName}
 use Rattle.command_words.specs.declared.name.CommandName.TheVariants.{Dml, Check, Plan, Seq, Step, Run, Gen}
 use Rattle.command_words.specs.Landed.{has_landed}
 use Rattle.command_words.specs.Numbers.{is_number, value_of_digits}
-use Rattle.command_words.specs.Table.{Text, DefaultBudget, DefaultSize, DefaultThreshold, DefaultWorkers, LargestBudget, LargestSeed, LargestSize, LargestThreshold, LatestUntil, MostFiles, MostParts, MostWorkers, fits_option, is_alignment, is_one_of, is_within, named, row, same_text, takes_value}
-use Rattle.command_words.specs.Words.{AllFit, IsAlignInRange, IsInRange, IsLanded, align_of, align_or_net, all_landed, asked_by, asked_of_words, command_by, command_in_table, command_of_words, files_in, has_value, have_values, is_in_row, is_plain_or_landed, is_plain_word, is_value_of, is_word_of, name_of, number_or, stand_once, value_of}
+use Rattle.command_words.specs.Table.{Text, DefaultBudget, DefaultSize, DefaultThreshold, DefaultWorkers, LargestBudget, LargestSeed, LargestSize, LargestThreshold, LatestUntil, MostFiles, MostParts, MostWorkers, fits_option, is_alignment, is_one_of, is_within, row, same_text, takes_value}
+use Rattle.command_words.specs.Words.{AllFit, IsAlignInRange, IsInRange, IsLanded, align_of, align_or_net, all_landed, asked_by, asked_of_words, command_by, command_in_table, command_of_words, files_in, have_values, is_in_row, is_plain_or_landed, is_plain_word, is_value_of, is_word_of, name_of, number_or, stand_once, value_of}
 use Rattle.command_words.specs.Parsed.{IsInTable, IsMatched}
-use Rattle.command_words.proofs.WordKinds.{or_else}
 use Rattle.command_words.proofs.Walks.{values_after, values_here}
 use Rattle.command_words.proofs.Lookups.{value_here, value_skips}
 

@@ -1,5 +1,5 @@
 -- What the rows that the words make have of an option, of a flag and of the files.
-use Rattle.std.proofs.Common.{ℕ, ◌≡◌, ◌∙◌, ap, refl, sym, subst, codes, true, false, not, List, [], ◌∷◌, ◌++◌, append_assoc, append-nil, Some, None, Option, Bool, cond, ◌&&◌, ◌||◌, drop, slice_get, true≢false, is_some}
+use Rattle.std.proofs.Common.{◌≡◌, ◌∙◌, ap, refl, sym, subst, codes, true, false, not, List, [], ◌∷◌, ◌++◌, append_assoc, append-nil, Some, None, Option, Bool, cond, ◌&&◌, ◌||◌, drop, slice_get, true≢false, is_some}
 use Rattle.std.specs.List.{list_all}
 use Rattle.std.specs.Option.{option_map}
 use Rattle.std.specs.Str.{bytes_eq}
@@ -11,7 +11,7 @@ use Rattle.command_words.specs.Table.{Text, row, is_one_of, same_text, takes_val
 use Rattle.command_words.specs.Words.{begins_with_dash, files_in, have_values, is_value_of, is_word_of, stand_once, value_of}
 use Rattle.command_words.proofs.TheApp.{files_rule, flag_rule, value_rule}
 use Rattle.command_words.proofs.Steps.{IsFlag, IsValueOption}
-use Rattle.command_words.proofs.WordKinds.{IsPlain, Kind, Pends, apart, flagged, kind_of, neither, not_true, plain, plain_apart, value_plain, valued}
+use Rattle.command_words.proofs.WordKinds.{Kind, Pends, apart, flagged, kind_of, neither, not_true, plain, plain_apart, value_plain, valued}
 use Rattle.command_words.proofs.Walks.{rows_by, rows_flagged, rows_plain, rows_valued, values_after, values_here}
 use Rattle.command_words.proofs.Rows.{file_other, file_own, filed, flag_other, flag_own, flag_row, look, value_other, value_own, value_row, values_in}
 

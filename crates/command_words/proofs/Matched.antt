@@ -1,18 +1,17 @@
 -- What the matches of `clap` have of words in the table.
-use Rattle.std.proofs.Common.{◌≡◌, ◌∙◌, ap, refl, sym, codes, true, false, List, [], ◌∷◌, Some, None, Option, Bool, cond, drop, slice_get, option_map}
+use Rattle.std.proofs.Common.{◌≡◌, ◌∙◌, ap, refl, codes, true, false, List, [], ◌∷◌, Some, None, Option, Bool, cond, drop, slice_get, option_map}
 use Rattle.std.specs.List.{fold, list_all}
-use Rattle.std.specs.Option.{option_and_then, option_map_or, unwrap_or}
+use Rattle.std.specs.Option.{option_and_then, unwrap_or}
 use Rattle.std.proofs.lemmas.Slice.Eq.{bytes_eq-Decides}
 use Rattle.clap.proofs.WalkLemmas.{both, first_value-rows, one_text-rows, raw_values-rows}
 use Rattle.clap.specs.Walk.{Row, all_of, first_of, one_of, row_text, rows_of, with_default}
 use Rattle.clap.specs.Simple.{matches_of}
 use Rattle.clap.specs.Takes.{takes}
-use Rattle.clap.specs.Matches.{matched_of, raw_values}
 use Rattle.clap.specs.declared.parser.matches.Found.{Found}
 use Rattle.command_words.specs.declared.name.CommandName.{CommandName}
 use Rattle.command_words.specs.declared.name.CommandName.TheVariants.{Dml, Check, Plan, Seq, Step, Run, Gen}
-use Rattle.command_words.specs.Table.{Text, is_one_of, row, same_text, takes_value, value_options}
-use Rattle.command_words.specs.Words.{files_in, have_values, has_room, is_plain_word, is_in_row, is_word_of, stand_once, value_of}
+use Rattle.command_words.specs.Table.{Text, is_one_of, row, same_text}
+use Rattle.command_words.specs.Words.{files_in, have_values, is_plain_word, is_in_row, is_word_of, stand_once, value_of}
 use Rattle.command_words.specs.Parsed.{IsInTable, IsMatched, flag_text, the_app}
 use Rattle.command_words.proofs.TheApp.{flag_rule, rules, value_rules}
 use Rattle.command_words.proofs.Steps.{IsFlag, IsValueOption, is_flat, is_report}

@@ -1,5 +1,5 @@
 -- Places of bytes, and the parts between commas.
-use Rattle.std.proofs.Common.{ℕ, ◌≡◌, ◌∙◌, ◌<◌, ◌≤◌, ◌+◌, sym, ap, refl, zero, suc, List, [], ◌∷◌, length, get_or, take, drop, nat_eq, nat_lt, Bool, true, false, Option, Some, None, arith, lt-ltb, le-ltb, eq-eqb, eqb-true, cond, ◌&&◌}
+use Rattle.std.proofs.Common.{ℕ, ◌≡◌, ◌∙◌, ◌<◌, ◌+◌, sym, ap, refl, zero, suc, List, [], ◌∷◌, length, get_or, take, drop, nat_eq, nat_lt, Bool, true, false, Some, None, arith, lt-ltb, le-ltb, eq-eqb, eqb-true, cond, ◌&&◌}
 use Rattle.std.specs.List.{position, position_or_len, list_all}
 use Rattle.std.proofs.lemmas.List.Sums.{position_or_len_is}
 use Rattle.std.proofs.lemmas.List.Quantifiers.{position-Some}

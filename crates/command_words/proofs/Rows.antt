@@ -1,6 +1,6 @@
 -- What the rows have of one argument, after uses of it and of others.
-use Rattle.std.proofs.Common.{ℕ, ◌≡◌, ◌∙◌, ap, refl, sym, codes, true, false, not, List, [], ◌∷◌, ◌++◌, Some, None, Option, Bool, cond, ◌&&◌, ◌||◌, nat_eq, drop, true≢false, is_some}
-use Rattle.std.specs.List.{find, fold, list_all, list_any}
+use Rattle.std.proofs.Common.{◌≡◌, ◌∙◌, ap, refl, sym, codes, true, false, not, List, [], ◌∷◌, ◌++◌, Some, None, Option, Bool, cond, ◌||◌, true≢false, is_some}
+use Rattle.std.specs.List.{find, fold, list_all}
 use Rattle.std.specs.Option.{option_map_or}
 use Rattle.std.specs.Str.{bytes_eq}
 use Rattle.std.proofs.lemmas.Slice.Eq.{bytes_eq-Decides}
@@ -10,7 +10,7 @@ use Rattle.clap.specs.declared.parser.matches.ValueSource.{ValueSource}
 use Rattle.clap.specs.declared.parser.matches.ValueSource.TheVariants.{CommandLine, DefaultValue}
 use Rattle.clap.specs.Walk.{Row, Rule, at_row, default_rows, has_row, more_values, reading_by, used, with_default, with_values, without}
 use Rattle.command_words.specs.Table.{Text}
-use Rattle.command_words.proofs.TheApp.{files_rule, flag_rule, rules, value_rule, value_rules}
+use Rattle.command_words.proofs.TheApp.{files_rule, flag_rule, value_rule}
 use Rattle.command_words.proofs.Steps.{has_none, is_undefaulted}
 use Rattle.command_words.proofs.WordKinds.{not_true, or_else}
 

@@ -1,12 +1,12 @@
 -- One word of the walk over the words that `clap` makes.
-use Rattle.std.proofs.Common.{ℕ, ◌≡◌, ◌∙◌, ap, ap₂, refl, sym, codes, true, false, not, List, [], ◌∷◌, ◌++◌, Some, None, Option, Bool, cond, ◌&&◌, ◌||◌, nat_eq, drop, slice_get, true≢false}
-use Rattle.std.specs.List.{fold, list_all, list_any}
+use Rattle.std.proofs.Common.{◌≡◌, refl, codes, true, false, not, List, [], ◌∷◌, Some, None, Bool, ◌&&◌, ◌||◌, drop}
+use Rattle.std.specs.List.{list_all}
 use Rattle.std.specs.Str.{bytes_eq}
-use Rattle.clap.specs.Walk.{Held, Row, Rule, Waiting, Walk, arg_by_id, has_row, idle, option, positional, is_pending, pushed, reacted, settled, used, walked}
-use Rattle.clap.specs.Takes.{settle_passes, turn_passes, use_passes, walk_passes}
-use Rattle.command_words.specs.Table.{Text, is_one_of, same_text, takes_value}
+use Rattle.clap.specs.Walk.{Held, Rule, Waiting, Walk, arg_by_id, idle, option, positional, reacted, settled, walked}
+use Rattle.clap.specs.Takes.{settle_passes, turn_passes, use_passes}
+use Rattle.command_words.specs.Table.{Text, takes_value}
 use Rattle.command_words.specs.Words.{begins_with_dash}
-use Rattle.command_words.proofs.TheApp.{rules, shape, command_rule, files_rule, flag_rule, value_rule}
+use Rattle.command_words.proofs.TheApp.{rules, shape, flag_rule, value_rule}
 
 -- the walk between two words, behind the command's name
 abbrev pub at : Waiting → Held → Walk

@@ -1,5 +1,5 @@
 -- The loops of the rule, word by word.
-use Rattle.std.proofs.Common.{ℕ, ◌≡◌, ◌∙◌, ◌<◌, ◌≤◌, ◌+◌, sym, ap, refl, zero, suc, List, [], ◌∷◌, length, get_or, drop, drop-cons, map, string_bytes, String, Bool, true, false, not, ◌&&◌, arith, slice_get, cond, drop_of_length-le, true≢false}
+use Rattle.std.proofs.Common.{ℕ, ◌≡◌, ◌∙◌, ◌<◌, ◌≤◌, ◌+◌, sym, ap, refl, suc, List, [], ◌∷◌, length, get_or, drop, drop-cons, map, string_bytes, String, Bool, true, false, not, ◌&&◌, arith, slice_get, cond, drop_of_length-le, true≢false}
 use Rattle.std.specs.List.{list_all}
 use Rattle.std.specs.declared.alloc.Global.{Global}
 use Rattle.command_words.specs.Table.{Text, is_one_of, same_text, takes_value}

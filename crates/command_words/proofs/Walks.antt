@@ -3,7 +3,7 @@ use Rattle.std.proofs.Common.{ℕ, ◌≡◌, ◌∙◌, ap, ap₂, refl, sym, c
 use Rattle.std.specs.List.{fold, list_all}
 use Rattle.std.specs.Option.{option_map_or}
 use Rattle.std.specs.Str.{bytes_eq}
-use Rattle.clap.specs.Walk.{Held, Row, Rule, Waiting, Walk, arg_by_id, finished, has_row, idle, is_pending, nothing_held, option, option_word, positional, pushed, settled, used, used_by_id, walk, walk_from, walked, with_default}
+use Rattle.clap.specs.Walk.{Held, Row, Rule, Walk, arg_by_id, has_row, idle, is_pending, nothing_held, option, option_word, positional, pushed, settled, used, used_by_id, walk_from, walked, with_default}
 use Rattle.clap.specs.Simple.{matches_of}
 use Rattle.clap.specs.Takes.{level_passes, settle_passes, takes, turn_passes, use_passes, walk_passes}
 use Rattle.clap.proofs.TakesLemmas.{leaf_takes}

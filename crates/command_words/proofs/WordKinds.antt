@@ -1,11 +1,11 @@
 -- What a word is: an option with a value, one without, or a file.
-use Rattle.std.proofs.Common.{ℕ, ◌≡◌, ◌∙◌, ◌⊎◌, inl, inr, ap, refl, sym, subst, codes, true, false, not, List, [], ◌∷◌, Bool, ◌&&◌, ◌||◌, nat_eq, drop, true≢false, Option, Some, None, slice_get}
+use Rattle.std.proofs.Common.{ℕ, ◌≡◌, ◌∙◌, ◌⊎◌, inl, inr, ap, refl, sym, subst, true, false, not, List, [], ◌∷◌, Bool, ◌&&◌, ◌||◌, nat_eq, true≢false, Option, Some, None, slice_get}
 use Rattle.std.specs.Str.{bytes_eq}
 use Rattle.std.proofs.lemmas.Slice.Eq.{bytes_eq-Decides}
 use Rattle.clap.proofs.WalkLemmas.{both}
 use Rattle.command_words.specs.declared.name.CommandName.{CommandName}
 use Rattle.command_words.specs.declared.name.CommandName.TheVariants.{Dml, Check, Plan, Seq, Step, Run, Gen}
-use Rattle.command_words.specs.Table.{Text, Row, row, options_of, is_one_of, same_text, takes_value, value_options}
+use Rattle.command_words.specs.Table.{Text, row, options_of, is_one_of, same_text, takes_value, value_options}
 use Rattle.command_words.specs.Words.{begins_with_dash, is_plain_word, is_value_of, is_word_of}
 use Rattle.command_words.proofs.Steps.{IsFlag, IsValueOption, is_until, is_align, is_threshold, is_budget, is_schedule, is_workers, is_seed, is_size, is_flat, is_report}
 

@@ -8,7 +8,7 @@ use Rattle.clap.specs.Matches.{first_value, matched_of, one_text, raw_values}
 use Rattle.clap.specs.declared.builder.action.ArgAction.TheVariants.{Append, SetTrue}
 use Rattle.clap.specs.declared.parser.matches.Found.{Found}
 use Rattle.command_words.specs.declared.name.CommandName.{CommandName}
-use Rattle.command_words.specs.Table.{Text, is_one_of, named, row, same_text, takes_value}
+use Rattle.command_words.specs.Table.{Text, is_one_of, row, same_text, takes_value}
 use Rattle.command_words.specs.Words.{files_in, is_in_row, value_of}
 
 -- the positional that is the command's name, the one of the files, an option with a value, and one without

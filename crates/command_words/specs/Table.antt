@@ -1,5 +1,5 @@
 -- The table of the commands: the files and the options of each, and what the values of the options may be.
-use Rattle.std.specs.Prelude.{ℕ, Bool, false, nat_eq, ◌||◌, if◌then◌else◌, List, [], ◌∷◌, ◌++◌, codes, find, Option, is_some}
+use Rattle.std.specs.Prelude.{ℕ, Bool, false, ◌||◌, if◌then◌else◌, List, [], ◌∷◌, ◌++◌, codes, find, Option, is_some}
 use Rattle.std.specs.List.{list_any}
 use Rattle.std.specs.Str.{bytes_eq}
 use Rattle.command_words.specs.declared.name.CommandName.{CommandName}

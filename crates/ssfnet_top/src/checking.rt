@@ -9,9 +9,9 @@ ghost use Rattle.ssfnet_top.specs.Outcome.{resolved_of, counts_in, counts_of, Is
 ghost use Rattle.ssfnet_top.specs.FilePlaces.{ArePlaced};
 ghost use Rattle.ssfnet_top.specs.Ending.{Answers, IsOfCommand, IsOfModel};
 
+use crate::Refusal;
 use crate::resolving::resolve_files;
 use crate::writing::write_answer;
-use crate::Refusal;
 use command_words::Command;
 use dml_tree::Tree;
 use net_build::{RingCounts, ring_counts};

@@ -8,9 +8,9 @@ ghost use Rattle.ssfnet_top.specs.Outcome.{done, refused, resolved_of, IsPlan, I
 ghost use Rattle.ssfnet_top.specs.FilePlaces.{ArePlaced};
 ghost use Rattle.ssfnet_top.specs.Ending.{Answers, IsOfCommand, IsOfModel};
 
+use crate::Refusal;
 use crate::resolving::resolve_files;
 use crate::writing::write_answer;
-use crate::Refusal;
 use command_words::Command;
 use dml_tree::Tree;
 use net_build::{plan_text, ring_text};

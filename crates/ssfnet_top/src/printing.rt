@@ -5,9 +5,9 @@ ghost use Rattle.ssfnet_top.specs.Outcome.{resolved_of, IsPrinted};
 ghost use Rattle.ssfnet_top.specs.FilePlaces.{ArePlaced};
 ghost use Rattle.ssfnet_top.specs.Ending.{Answers, IsOfCommand, IsOfModel};
 
+use crate::Refusal;
 use crate::resolving::resolve_files;
 use crate::writing::write_text;
-use crate::Refusal;
 use command_words::Command;
 use dml_tree::{Tree, write};
 use sim_base::Sink;

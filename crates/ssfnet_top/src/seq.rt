@@ -9,9 +9,9 @@ ghost use Rattle.ssfnet_top.specs.Outcome.{model_of, IsRunDue, IsModelRun};
 ghost use Rattle.ssfnet_top.specs.FilePlaces.{ArePlaced};
 ghost use Rattle.ssfnet_top.specs.Ending.{Answers, IsOfModel, IsOfCommand};
 
+use crate::Refusal;
 use crate::resolving::resolve_files;
 use crate::sending::{flush, send_entries};
-use crate::Refusal;
 use command_words::Command;
 use dml_tree::Tree;
 use global_list::{Single, SingleEnd, run_single};

@@ -9,12 +9,12 @@ ghost use Rattle.ssfnet_top.specs.Outcome.{IsCommandDue, IsOutcome, refusal_line
 ghost use Rattle.ssfnet_top.specs.FilePlaces.{ArePlaced};
 ghost use Rattle.ssfnet_top.specs.Ending.{Ends, Concerns, Answers, IsReadFault, IsOfCommand, IsOfModel, IsTold, IsLineCut};
 
+use crate::Refusal;
 use crate::checking::print_counts;
 use crate::files::read_files;
 use crate::planning::print_plan;
 use crate::printing::{print_resolved, print_tree};
 use crate::seq::run_model;
-use crate::Refusal;
 use command_words::{Command, Request, WordsFault, read_words};
 use dml_tree::Tree;
 use sim_base::{Library, Sink, write_all};

@@ -1,6 +1,6 @@
-use Rattle.std.proofs.Common.{ℕ, ◌≡◌, ◌∙◌, ◌+◌, ◌&&◌, Bool, ap, sym, arith, true, false, not, cond, string_bytes, length, map}
+use Rattle.std.proofs.Common.{◌≡◌, ◌∙◌, ◌+◌, ◌&&◌, Bool, ap, sym, arith, not, cond, string_bytes}
 use Rattle.command_words.specs.Table.{Text, takes_value}
-use Rattle.command_words.specs.Words.{begins_with_dash, files_in}
+use Rattle.command_words.specs.Words.{begins_with_dash}
 use Rattle.command_words.proofs.Tests.{count_next, count_past}
 use Rattle.command_words.proofs.rule.count_files.Goals as goal
 use Rattle.command_words.proofs.rule.count_files.Goals.{then-is_file, else-is_file}

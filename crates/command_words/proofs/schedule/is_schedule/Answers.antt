@@ -1,4 +1,4 @@
-use Rattle.std.proofs.Common.{◌≡◌, ◌∙◌, ap, sym, take, drop, ◌+◌, false, true, rules, refl, List, ℕ}
+use Rattle.std.proofs.Common.{◌≡◌, ◌∙◌, ap, sym, take, false, true, rules, refl}
 use Rattle.command_words.specs.Schedule.{is_schedule, is_step}
 use Rattle.command_words.proofs.Places.{schedule_cut, schedule_whole}
 use Rattle.command_words.proofs.schedule.is_schedule.Goals as goal

@@ -1,12 +1,11 @@
-use Rattle.std.proofs.Common.{ℕ, ◌≡◌, ◌∙◌, ◌≤◌, ap, sym, subst, arith, codes, drop, length, map, option_map, string_bytes, Bool, false, List, Option}
+use Rattle.std.proofs.Common.{◌∙◌, ◌≤◌, ap, sym, subst, arith, codes, drop, length, map, option_map, string_bytes, Bool, false, List, Option}
 use Rattle.std.proofs.lemmas.Result.{IfOk-weaker}
 use Rattle.clap.specs.Words.{first_value, found_of}
 use Rattle.clap.specs.declared.parser.matches.Found.{Found}
-use Rattle.command_words.specs.declared.name.CommandName.{CommandName}
 use Rattle.command_words.specs.declared.words.Request.{Request}
-use Rattle.command_words.specs.Parsed.{IsInTable, IsMatched}
+use Rattle.command_words.specs.Parsed.{IsMatched}
 use Rattle.command_words.specs.Table.{Text, MostFiles, is_one_of}
-use Rattle.command_words.specs.Words.{AllFit, IsInRange, command_of_words, files_in}
+use Rattle.command_words.specs.Words.{AllFit, IsInRange, files_in}
 use Rattle.command_words.proofs.Asked.{asked_none, asked_some, command_landed, command_range, files_few, if_all, if_both, landed_by, matched_fit}
 use Rattle.command_words.proofs.words.read_words.Goals as goal
 

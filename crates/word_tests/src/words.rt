@@ -1,0 +1,300 @@
+//! What words ask, in a table.
+use command_words::{Command, WordsFault, read_words};
+use std::alloc::Global;
+use std::process::Abort;
+use std::test::Fail;
+
+/// Words, parted by blanks, where `_` stands for the empty word; what they ask, and the names of the
+/// files, each with a blank behind it.
+struct Case {
+    words: &'static str,
+    asked: Option<Command>,
+    files: &'static str,
+}
+
+const TEN: Option<Command> = Some(Command::Seq {
+    until: 10,
+    budget: 1_000_000_000,
+});
+
+const FEW: Option<Command> = Some(Command::Seq {
+    until: 10,
+    budget: 3,
+});
+
+/// Words in the table, and words that are not.
+const CASES: [Case; 41] = [
+    Case {
+        words: "seq --until 10 m.dml",
+        asked: TEN,
+        files: "m.dml ",
+    },
+    Case {
+        words: "seq m.dml --until 10",
+        asked: TEN,
+        files: "m.dml ",
+    },
+    Case {
+        words: "seq a --until 10 b --budget 3 c",
+        asked: FEW,
+        files: "a b c ",
+    },
+    Case {
+        words: "seq --budget 3 --until 10 a b",
+        asked: FEW,
+        files: "a b ",
+    },
+    Case {
+        words: "seq a b --until 10 --budget 3",
+        asked: FEW,
+        files: "a b ",
+    },
+    Case {
+        words: "seq --until 10 seq",
+        asked: TEN,
+        files: "seq ",
+    },
+    Case {
+        words: "seq seq dml --until 10",
+        asked: TEN,
+        files: "seq dml ",
+    },
+    Case {
+        words: "seq 10 --until 10 010",
+        asked: TEN,
+        files: "10 010 ",
+    },
+    Case {
+        words: "dml m.dml",
+        asked: Some(Command::Dml { flat: false }),
+        files: "m.dml ",
+    },
+    Case {
+        words: "dml a --flat b",
+        asked: Some(Command::Dml { flat: true }),
+        files: "a b ",
+    },
+    Case {
+        words: "dml --flat a a",
+        asked: Some(Command::Dml { flat: true }),
+        files: "a a ",
+    },
+    Case {
+        words: "check a b",
+        asked: Some(Command::Check),
+        files: "a b ",
+    },
+    Case {
+        words: "plan plan",
+        asked: Some(Command::Plan),
+        files: "plan ",
+    },
+    Case {
+        words: "",
+        asked: None,
+        files: "",
+    },
+    Case {
+        words: "_",
+        asked: None,
+        files: "",
+    },
+    Case {
+        words: "seq m.dml",
+        asked: None,
+        files: "",
+    },
+    Case {
+        words: "seq --until 010 m.dml",
+        asked: None,
+        files: "",
+    },
+    Case {
+        words: "seq --until=10 m.dml",
+        asked: None,
+        files: "",
+    },
+    Case {
+        words: "seq --until 10 --budget=3 m.dml",
+        asked: None,
+        files: "",
+    },
+    Case {
+        words: "dml --flat=true m.dml",
+        asked: None,
+        files: "",
+    },
+    Case {
+        words: "seq --until 10",
+        asked: None,
+        files: "",
+    },
+    Case {
+        words: "seq --until m.dml",
+        asked: None,
+        files: "",
+    },
+    Case {
+        words: "seq m.dml --until",
+        asked: None,
+        files: "",
+    },
+    Case {
+        words: "seq --until --budget m.dml",
+        asked: None,
+        files: "",
+    },
+    Case {
+        words: "seq --until -1 m.dml",
+        asked: None,
+        files: "",
+    },
+    Case {
+        words: "seq --until 10 --budget -3 m.dml",
+        asked: None,
+        files: "",
+    },
+    Case {
+        words: "seq --unt 10 m.dml",
+        asked: None,
+        files: "",
+    },
+    Case {
+        words: "seq --until 10 --b 3 m.dml",
+        asked: None,
+        files: "",
+    },
+    Case {
+        words: "dml --fl m.dml",
+        asked: None,
+        files: "",
+    },
+    Case {
+        words: "seq --until 10 --until 10 m.dml",
+        asked: None,
+        files: "",
+    },
+    Case {
+        words: "seq --until 10 --budget 3 m.dml --budget 3",
+        asked: None,
+        files: "",
+    },
+    Case {
+        words: "dml --flat m.dml --flat",
+        asked: None,
+        files: "",
+    },
+    Case {
+        words: "dml _ m.dml",
+        asked: None,
+        files: "",
+    },
+    Case {
+        words: "seq --until _ m.dml",
+        asked: None,
+        files: "",
+    },
+    Case {
+        words: "dml -- m.dml",
+        asked: None,
+        files: "",
+    },
+    Case {
+        words: "dml - m.dml",
+        asked: None,
+        files: "",
+    },
+    Case {
+        words: "--flat dml m.dml",
+        asked: None,
+        files: "",
+    },
+    Case {
+        words: "seq --help --until 10 m.dml",
+        asked: None,
+        files: "",
+    },
+    Case {
+        words: "run --until 1 --workers 65 m.dml",
+        asked: None,
+        files: "",
+    },
+    Case {
+        words: "seq --until 10 --report m.dml",
+        asked: None,
+        files: "",
+    },
+    Case {
+        words: "fly m.dml",
+        asked: None,
+        files: "",
+    },
+];
+
+fn split_words(alloc: Global, text: &str) -> Result<Vec<String>, Fail> {
+    let mut words = Vec::new(alloc);
+    for word in text.split(' ') {
+        if word == "_" {
+            words.push(String::from_str(alloc, "")?)?;
+        } else if !word.is_empty() {
+            words.push(String::from_str(alloc, word)?)?;
+        }
+    }
+    Ok(words)
+}
+
+fn joined(alloc: Global, files: &[String]) -> Result<String, Fail> {
+    let mut text = String::from_str(alloc, "")?;
+    for file in files {
+        text.push_str(file.as_str())?;
+        text.push_str(" ")?;
+    }
+    Ok(text)
+}
+
+fn check_case(rt: &(impl Abort + AllocGlobal), case: &Case) -> Result<(), Fail> {
+    let alloc = rt.alloc();
+    let words = split_words(alloc, case.words)?;
+    match read_words(alloc, words.as_slice()) {
+        Ok(request) => {
+            assert_eq!(rt; Some(request.command), case.asked, "{}", case.words);
+            assert!(rt; !request.report && request.schedule.is_none());
+            let files = joined(alloc, request.files.as_slice())?;
+            assert_eq!(rt; files.as_str(), case.files, "{}", case.words);
+        }
+        Err(fault) => {
+            assert_eq!(rt; fault, WordsFault::Words, "{}", case.words);
+            assert!(rt; case.asked.is_none(), "{}", case.words);
+        }
+    }
+    Ok(())
+}
+
+#[test]
+fn words_ask_what_they_say(rt: HostRuntime) -> Result<(), Fail> {
+    for case in &CASES {
+        check_case(&rt, case)?;
+    }
+    Ok(())
+}
+
+/// The words of `dml` with so many files.
+fn dml_on(alloc: Global, files: usize) -> Result<Vec<String>, Fail> {
+    let mut words = split_words(alloc, "dml")?;
+    for _ in 0..files {
+        words.push(String::from_str(alloc, "m.dml")?)?;
+    }
+    Ok(words)
+}
+
+#[test]
+fn a_model_has_1_to_64_files(rt: HostRuntime) -> Result<(), Fail> {
+    let alloc = rt.alloc();
+    let most = dml_on(alloc, 64)?;
+    assert!(rt; read_words(alloc, most.as_slice()).is_ok());
+    let more = dml_on(alloc, 65)?;
+    assert!(rt; read_words(alloc, more.as_slice()).is_err());
+    let none = dml_on(alloc, 0)?;
+    assert!(rt; read_words(alloc, none.as_slice()).is_err());
+    Ok(())
+}
