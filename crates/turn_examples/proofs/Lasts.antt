@@ -1,5 +1,5 @@
 -- What holds of each item of a list holds of the last one and of the others.
-use Rattle.std.proofs.Common.{ℕ, zero, suc, ◌<◌, List, [], ◌∷◌, ◌++◌, All, arith}
+use Rattle.std.proofs.Common.{zero, suc, List, [], ◌∷◌, ◌++◌, All, arith}
 
 module _ {A : Type 0} where
   all_cons : (P : A → Type 0) (y : A) (ys : List A) → P y → All P ys → All P (y ∷ ys)

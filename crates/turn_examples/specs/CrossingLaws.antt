@@ -1,6 +1,6 @@
 -- What is owed and marked in the miniature crossing meets the laws of a tenant.
-use Rattle.std.specs.Prelude.{◌≡◌, ◌≢◌, ℕ, ◌<◌, ◌≤◌, ◌⊎◌, ◌==◌, true, cond, refl}
-use Rattle.std.proofs.Common.{sym, ap, subst, ◌∙◌, inl, ⊎_elim, arith, eq-eqb, ne_eqb}
+use Rattle.std.specs.Prelude.{◌≡◌, ℕ, ◌⊎◌, true, cond}
+use Rattle.std.proofs.Common.{sym, ap, ◌∙◌, inl, ⊎_elim, arith, eq-eqb, ne_eqb}
 use mathlib.Core.Logic.{dite}
 use native.Mathlib.Decide.{ℕ_discrete}
 use Rattle.turn_table.specs.Changes.{put}

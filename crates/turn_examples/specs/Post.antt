@@ -1,5 +1,5 @@
 -- The miniature post: a sender at place 0, a mail at place 1, and one posted word that speaks of both.
-use Rattle.std.specs.Prelude.{◌≡◌, ℕ, [], ◌∷◌}
+use Rattle.std.specs.Prelude.{[], ◌∷◌}
 use Rattle.turn_table.specs.declared.view.Shape.{Shape}
 
 abbrev pub post_shape : Shape

@@ -1,4 +1,4 @@
-use Rattle.std.proofs.Common.{◌≡◌, ◌≤◌, All, vec_len, vec_capacity, subst, arith}
+use Rattle.std.proofs.Common.{All, subst, arith}
 use Rattle.turn_table.specs.declared.pass.Pass.{Pass}
 use Rattle.turn_table.specs.Passes.{IsSeated, IsNew}
 use Rattle.turn_table.specs.Turned.{table_of}
