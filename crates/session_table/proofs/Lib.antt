@@ -1,3 +1,4 @@
 mod Deadlines
 mod Keeping
 mod Lists
+mod Worked
