@@ -1,0 +1,4 @@
+pub mod Tables
+pub mod Sending
+pub mod Sent
+pub mod Settles

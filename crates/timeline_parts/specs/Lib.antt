@@ -1,0 +1,4 @@
+pub mod Tables
+pub mod RouteMap
+pub mod Sending
+pub mod Settling
