@@ -2,7 +2,7 @@
 use Rattle.std.proofs.Common.{◌≡◌, ℕ, refl, List, [], ◌∷◌, Option, Some, None}
 use Rattle.session_table.specs.declared.entry.Sockets.{Sockets}
 use Rattle.session_table.specs.declared.entry.Entry.{Entry}
-use Rattle.session_table.specs.Entries.{numbered, found, least, placed, without}
+use Rattle.session_table.specs.Entries.{found, least, placed, without}
 
 abbrev ends : ℕ → Sockets
 ends port = record { own = 1; own_port = 80; peer = 2; peer_port = port }

@@ -9,3 +9,6 @@ mod table;
 
 pub use entry::{Entry, Sockets};
 pub use table::SessionTable;
+
+#[cfg(test)]
+mod tests;
