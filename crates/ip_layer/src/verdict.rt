@@ -13,7 +13,7 @@ pub enum Verdict {
     Local,
     /// It leaves by the route of this place in the list of routes.
     Forward(usize),
-    /// It is dropped: its time to live has ended, or no route holds its destination.
+    /// It is dropped: its time to live has ended, no route holds its destination, or the host sends it to itself.
     Dropped(Reason),
 }
 

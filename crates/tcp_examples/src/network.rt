@@ -3,7 +3,7 @@ use sim_base::{Memory, Segment, TcpState};
 use std::alloc::Global;
 use tcp_session::{Act, Segments, Session};
 
-/// What the network does to the segments that an end sends in one tick.
+/// What the network does to the segments that an end sends.
 #[derive(Clone, Copy, Debug, PartialEq, Eq)]
 pub enum Fault {
     None,

@@ -5,6 +5,7 @@ ghost use Rattle.tcp_rules.specs.Segments.{IsTimedTcp};
 use crate::network::{Fault, Host, Outcome, run};
 use sim_base::{Segment, TcpConfig, TcpState};
 use std::test::Fail;
+use tcp_clock::Cwnd;
 use tcp_session::{Act, Segments, Session};
 
 /// Segments of 1,000 bytes, windows of 32 of them, and twelve retransmissions.
@@ -432,5 +433,23 @@ fn server_again(rt: HostRuntime) -> Result<(), Fail> {
         assert!(rt; are(out.acts(), want), "{comes:?}");
         assert_eq!(rt; server.delivered(), delivered);
     }
+    Ok(())
+}
+
+/// The numbers of RFC 5681 for segments of 1,460 bytes, worked out by hand from its equations (3) and (4): a loss halves
+/// what is in flight, down to two segments, a timeout leaves one segment of window, and a second one no less.
+#[test]
+fn windows_by_rfc_5681(rt: HostRuntime) -> Result<(), Fail> {
+    let mut window = Cwnd::new(1_460, 100_000);
+    window.third_duplicate(20_000);
+    assert_eq!(rt; window.ssthresh(), 10_000);
+    window.timeout(5_000);
+    assert_eq!(rt; (window.ssthresh(), window.window()), (2_920, 1_460));
+    window.timeout_again();
+    assert_eq!(rt; (window.ssthresh(), window.window()), (2_920, 1_460));
+    window.acked(1_460);
+    assert_eq!(rt; window.window(), 2_920);
+    window.acked(1_460);
+    assert_eq!(rt; window.window(), 3_650);
     Ok(())
 }

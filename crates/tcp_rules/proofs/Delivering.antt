@@ -116,7 +116,8 @@ beginning_keeps mine theirs bytes opened_at accepted_at = record {
 sound : (iss bytes : ℕ) (w : World) → Keeps iss (iss + 1 + bytes) w → IsSound iss bytes w
 sound iss bytes w keeps =
     let within = keeps.server.within in
-    record { delivered = omega arith; sent = keeps.only.passed; acknowledged = keeps.client.una }
+    let counted = keeps.server.counted in
+    record { delivered = omega arith; in_order = omega arith; sent = keeps.only.passed; acknowledged = keeps.client.una }
 
 -- every transfer is sound after any steps
 pub transfers_sound : (mine theirs : TcpConfig) (bytes opened_at accepted_at : ℕ) (steps : List Step)

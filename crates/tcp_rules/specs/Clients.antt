@@ -13,8 +13,8 @@ use Rattle.tcp_rules.specs.Segments.{Turn, quiet, before, following, span, syn_s
 
 -- what a client keeps (RFC 793 section 3.2): SND.UNA, SND.NXT and the greatest SND.NXT so far; where
 -- its data ends, which is the place of its FIN; RCV.NXT and SND.WND; the congestion window, the
--- retransmission timeout and what is being timed for it; how often the oldest segment was sent again,
--- and how many duplicate acknowledgments came, of which more than four count as four
+-- retransmission timeout and what is being timed for it; how often the timer has run out since the last
+-- progress, and how many duplicate acknowledgments came, of which more than four count as four
 pub record ClientFields : Type 0 where
   pub config : TcpConfig
   pub state : TcpState
@@ -81,7 +81,7 @@ abbrev pub with_deadline : ClientFields → ℕ → ClientFields
 with_deadline c now = record c { deadline = deadline_at c now }
 
 -- Opening (RFC 793 section 3.4).
--- The congestion window is made when the peer's window is known.
+-- The congestion window is made anew when the peer's window is known.
 unfoldable pub opened : TcpConfig → (bytes now : ℕ) → ClientFields
 opened config bytes now =
     let rto = first_timeout config.frequency in
@@ -278,7 +278,8 @@ at_plain c s now =
 unfoldable pub at_opening : ClientFields → SegmentFields → ℕ → Turn ClientFields
 at_opening c s now = if s.syn && is_ack_of (c.config.iss + 1) s.ack then at_syn_ack c s now else quiet c
 
--- one that comes later is acknowledged and changes nothing
+-- in later states: a SYN that acknowledges gets a pure ACK and changes nothing, another SYN nothing, and any other segment is
+-- a plain one
 unfoldable pub at_later : ClientFields → SegmentFields → ℕ → Turn ClientFields
 at_later c s now =
     if s.syn then (if is_some s.ack then record { after = c; acts = Send (client_ack c) ∷ [] } else quiet c)
@@ -296,7 +297,7 @@ client_segment c s now = client_at c.state c s now
 abbrev pub client_closed : ClientFields → Turn ClientFields
 client_closed c = record { after = record c { state = Closed; deadline = None }; acts = Entered Closed ∷ [] }
 
--- there is no congestion window before the peer's window is known
+-- the congestion window stays as it is until the peer's window is known
 unfoldable pub window_after_timeout : TcpState → ClientFields → Window
 window_after_timeout SynSent c = c.window
 window_after_timeout _ c =

@@ -13,7 +13,8 @@ use Rattle.tcp_rules.specs.Segments.{Turn, quiet, before, following, own_window,
 
 -- what a server keeps (RFC 793 section 3.2): IRS, the peer's first position; RCV.NXT; what of later
 -- positions has come, in order of beginnings; the place of the peer's FIN once it has come; how many
--- bytes were delivered; the retransmission timeout, and how often the last segment was sent again
+-- bytes were delivered; the retransmission timeout, and how often the timer has run out since the last
+-- progress
 pub record ServerFields : Type 0 where
   pub config : TcpConfig
   pub state : TcpState

@@ -61,10 +61,11 @@ LiesAmong position [] = ⊥
 LiesAmong position (s ∷ ss) = LiesIn position s ⊎ LiesAmong position ss
 
 -- what holds after any steps of a transfer of so many bytes from a client whose ISS this is: no more is delivered than
--- the client has; each position that the server no longer waits for lies in a segment that the client sent, where a SYN
+-- the client has, and only what stands right after its SYN, in order; each position that the server no longer waits for lies in a segment that the client sent, where a SYN
 -- and a FIN take one position each; and the client takes nothing for acknowledged that the server still waits for
 pub record IsSound (iss bytes : ℕ) (w : World) : Type 0 where
   pub delivered : w.server.delivered ≤ bytes
+  pub in_order : iss + 1 + w.server.delivered ≤ w.server.rcv
   pub sent : (position : ℕ) → iss ≤ position → position < w.server.rcv → LiesAmong position w.from_client
   pub acknowledged : w.client.una ≤ w.server.rcv
 

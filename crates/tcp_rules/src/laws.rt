@@ -12,15 +12,15 @@ ghost use Rattle.tcp_rules.specs.Limits.{IsClientEnd, IsEnd, IsOrderly};
 ghost use Rattle.tcp_rules.specs.Transfers.{Step, IsSound, HoldsOnly, after_steps, beginning};
 
 /// Whatever a network loses, repeats, delays or reorders, and whenever deadlines pass: a server
-/// delivers no more bytes than the client has, it passes only positions of segments that the client
-/// sent, and the client takes no position for acknowledged that the server has not passed.
+/// delivers no more bytes than the client has, and these in order from the first; it passes only positions of
+/// segments that the client sent; and the client takes no position for acknowledged that the server has not passed.
 pub fn transfers_are_sound()
     ensures { (mine theirs : TcpConfig) (bytes opened_at accepted_at : ℕ) (steps : List Step)
         → IsSound mine.iss bytes (after_steps (beginning mine theirs bytes opened_at accepted_at) steps) }
 {}
 
 /// A session that is in range stays in range, and sends few segments at a time, all in range: at a
-/// segment at most as many as a window has, and else at most one.
+/// segment at most 65,538, which is three more than a window has, and else at most one.
 pub fn sessions_are_orderly()
     ensures connecting { (config : TcpConfig) (bytes now : ℕ) → IsTimedTcp config → bytes ≤ 2 ^ 30
         → IsOrderly 1 (connecting config bytes now) }

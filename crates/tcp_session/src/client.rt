@@ -101,7 +101,7 @@ impl Client {
         segments::fin(&self.config, self.end, self.rcv)
     }
 
-    /// Data of some length, which ends at most where all data ends.
+    /// Data of some length, which ends at most where the FIN ends.
     fn data(&self, position: u64, length: u64) -> Segment
         requires { position + length ≤ self.now.end + 1 }
         ensures { result ≡ client_data self.now position length }
