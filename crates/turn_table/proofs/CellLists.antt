@@ -1,6 +1,6 @@
 -- Lists of cells: how values go into them and come out, and the opening and the end of a table's slots.
 use Rattle.std.proofs.Common.{◌≡◌, ℕ, zero, suc, ◌+◌, ◌<◌, Bool, true, false, List, [], ◌∷◌, ◌++◌, length, get_or, set, replicate, All, reverse, slice_index, refl, sym, ap, subst, ◌∙◌, arith, length-append, get_or-append-add}
-use Rattle.std.proofs.lemmas.List.{reverse-append, length-replicate}
+use Rattle.std.proofs.lemmas.List.{reverse-append, length-replicate, get_or-replicate, get_or_append_left}
 use mathlib.Core.Option.{some, some-injective, some-ne-none}
 use lib.ListN.{get_elem?}
 use Rattle.atomic_table.specs.Table.{opening, Final, Seen}
@@ -152,6 +152,7 @@ module _ {T K : Type 0} (g : Ghosts T K) (key : K) where
       opens g key ws cells
       (ap length made ∙ length-append Z counts ∙ omega (arith, zeros, is_places, words))
       (length_cells cells values (places_in (g.shape key)) a hp)
+      (λ p within. ap (λ l. get_or l (p + 1) 0) made ∙ get_or_append_left Z counts 0 (p + 1) (omega (arith, zeros, is_places, within)) ∙ get_or-replicate (places + 1) (p + 1) 0 0 (omega (arith, is_places, within)))
       (record {
         room = a.room;
         stands = at_map some cells (places_in (g.shape key)) (Room a.room) (ap (λ l. get_elem? l (places_in (g.shape key))) a.same ∙ at_last (valued values) (Room a.room) (places_in (g.shape key)) (lv ∙ hp));

@@ -39,6 +39,7 @@ module _ {T K : Type 0} (g : Ghosts T K) (key : K) where
     pub helds : (q : ℕ) → q ≢ p → held w q ≡ held v q
     pub others : (j : ℕ) (u : View) → j ≢ id → get_elem? s.views j ≡ some u → held u p ≡ 0
     pub named : 0 < held w p → (0 < w.number) × (turn_word ws p ≡ w.number)
+    pub freed : held w p ≡ 0 → turn_word ws p ≡ 0
     pub home : held w p < 2 → (x : T) × (get_elem? hs p ≡ some (some (Value x))) × g.sound key p x × g.owes key (count_word (g.shape key) s.words) p x × (held w p ≡ 1 → g.marked key (mark w) p x)
     pub empty : held w p ≡ 2 → get_elem? hs p ≡ some (some Empty)
     pub notes : (c : ℕ) → 0 < note w c → (note w c ≡ note v c) × (is_spoken_for (g.shape key) (held w) c ≡ true)
@@ -86,6 +87,8 @@ module _ {T K : Type 0} (g : Ghosts T K) (key : K) where
       room = record { room = r.room.room; stands = t.slots (places_in (g.shape key)) (λ same. let b = t.within in omega arith) ∙ r.room.stands; bare = r.room.bare; wide = r.room.wide };
       shaped = seats.shaped;
       named = touched_named;
+      unheld = λ q within none. alike q p (λ same. ap (turn_word ws) same ∙ t.freed (ap (held w) (sym same) ∙ none id w (set_there s.views id v w e)))
+          (λ ne. t.turns q ne ∙ r.unheld q within (λ j u at. alike j id (λ me. let u_v : v ≡ u = some-injective v u (sym e ∙ ap (λ k. get_elem? s.views k) (sym me) ∙ at) in subst (λ k. held k q ≡ 0) u_v (sym (t.helds q ne) ∙ none id w (set_there s.views id v w e))) (λ other. none j u (set_else s.views id j w other ∙ at))));
       apart = seats.apart;
       home = λ q within free. alike q p
           (λ same. subst (IsHome g key (count_word (g.shape key) ws) (set s.views id w) hs) (sym same) (touched_here (subst (λ k. held w k < 2) same (free id w (set_there s.views id v w e)))))
@@ -141,6 +144,7 @@ module _ {T K : Type 0} (g : Ghosts T K) (key : K) where
           (λ q h. let x = t.helds q in let n = r.named id v e q (omega arith) in let m = t.self.number in ((let a = n.0 in omega arith), n.1 ∙ sym m, n.2));
       apart = seats.apart;
       home = viewed_home;
+      unheld = λ q within none. r.unheld q within (λ j u at. alike j id (λ me. let u_v : v ≡ u = some-injective v u (sym e ∙ ap (λ k. get_elem? s.views k) (sym me) ∙ at) in subst (λ k. held k q ≡ 0) u_v (sym (t.helds q) ∙ none id w (set_there s.views id v w e))) (λ other. none j u (set_else s.views id j w other ∙ at)));
       empty = each s.views id w (λ u. (q : ℕ) → held u q ≡ 2 → get_elem? s.homes q ≡ some (some Empty)) r.empty (λ q two. r.empty id v e q (sym (t.helds q) ∙ two));
       noted = each s.views id w (λ u. (c : ℕ) → 0 < note u c → (c < words_in (g.shape key)) × (is_spoken_for (g.shape key) (held u) c ≡ true) × (note u c ≡ suc (count_word (g.shape key) s.words c))) r.noted
           (λ c h. ⊎_elim

@@ -78,6 +78,7 @@ module _ {T K : Type 0} (g : Ghosts T K) (key : K) where
         helds = at_else v.held p 1;
         others = λ j u ne at. nobody s r found j u at;
         named = λ h. (omega arith, get_or-set_at s.words (p + 1) (p + 1) num 0 refl (let l = r.wide in omega arith) ∙ sym number);
+        freed = λ h. let a = at_here v.held p 1 in absurd (omega arith);
         home = λ h. let old = free_of s r id v e p (omega arith) (λ j u ne at. nobody s r found j u at) within in
             (old.value, old.stands, old.sound, old.owed, λ one. g.cleared key (mark (taking v p)) p old.value (λ c listed. forgotten (is_cleared v.shape p) v.marks c (ap (λ sh. is_cleared sh p c) same_shape ∙ listed)));
         empty = λ h. let a = at_here v.held p 1 in absurd (omega arith);
@@ -120,6 +121,7 @@ module _ {T K : Type 0} (g : Ghosts T K) (key : K) where
       helds = at_else v.held p k;
       others = sole g key s r id v e p mine;
       named = λ a. let n = r.named id v e p mine in (n.0, n.1);
+      freed = λ h. absurd (omega arith);
       home = λ a. let b = home (omega arith) in (b.0, b.1, b.2, b.3, λ one. b.4 (sym now ∙ one));
       empty = λ two. empty (sym now ∙ two);
       notes = λ c a. (refl, spoken_more (g.shape key) (held v) (held (holding v p k)) c (λ q. in_hand k q pos) (r.noted id v e c a).1);
@@ -188,6 +190,7 @@ module _ {T K : Type 0} (g : Ghosts T K) (key : K) where
         helds = at_else v.held p 0;
         others = sole g key s r id v e p (omega arith);
         named = λ h. absurd (omega arith);
+        freed = λ h. get_or-set_at s.words (p + 1) (p + 1) 0 0 refl (let l = r.wide in omega arith);
         home = λ h. let old = free_of s r id v e p (omega arith) (sole g key s r id v e p (omega arith)) within in (old.value, old.stands, old.sound, old.owed, λ h. absurd (omega arith));
         empty = λ h. absurd (omega arith);
         notes = λ c h. let l = forget_left (λ c. not (is_spoken_for v.shape (at ((p, 0) ∷ v.held)) c)) v.notes c h in

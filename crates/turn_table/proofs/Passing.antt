@@ -109,6 +109,7 @@ module _ {T K : Type 0} (g : Ghosts T K) (key : K) where
       shaped = over (λ u. IsInUse u → u.shape ≡ g.shape key) r.shaped (λ used. r.shaped id v e (inl root)) (λ used. r.shaped id v e (inl root));
       named = over (λ u. (q : ℕ) → 0 < held u q → (0 < u.number) × (turn_word s.words q ≡ u.number) × (q < places_in (g.shape key))) r.named (r.named id v e) (λ q h. absurd (omega arith));
       apart = split_apart;
+      unheld = λ q within none. r.unheld q within (back_over (λ u. held u q ≡ 0) (λ h. h) none);
       home = λ p within free. let old = r.home p within (back_over (λ u. held u p < 2) (λ h. h) free) in record {
         value = old.value;
         stands = old.stands;
@@ -191,6 +192,7 @@ module _ {T K : Type 0} (g : Ghosts T K) (key : K) where
         owed = old.owed;
         marked = over_join (λ u. held u p ≡ 1 → g.marked key (mark u) p old.value) old.marked (old.marked id v e) (λ h. absurd (omega arith));
       };
+      unheld = λ q within none. r.unheld q within (back_join (λ u. held u q ≡ 0) (λ h. h) (bare q) none);
       empty = over_join (λ u. (q : ℕ) → held u q ≡ 2 → get_elem? s.homes q ≡ some (some Empty)) r.empty (r.empty id v e) (λ q h. absurd (omega arith));
       noted = over_join (λ u. (c : ℕ) → 0 < note u c → (c < words_in (g.shape key)) × (is_spoken_for (g.shape key) (held u) c ≡ true) × (note u c ≡ suc (count_word (g.shape key) s.words c))) r.noted (r.noted id v e) (λ c h. absurd (omega arith));
       lower = over_join (λ u. (c : ℕ) → mark u c ≤ count_word (g.shape key) s.words c) r.lower (r.lower id v e) (λ c. omega arith);
@@ -206,14 +208,15 @@ module _ {T K : Type 0} (g : Ghosts T K) (key : K) where
 
   -- the opening: cells with the values, then the room, and words with the counts
   pub opens : (ws : List ℕ) (xs : List (Cell T)) → length ws ≡ places_in (g.shape key) + 1 + words_in (g.shape key) → length xs ≡ places_in (g.shape key) + 1
-      → HasRoom (places_in (g.shape key)) (map some xs) → g.keeps key (count_word (g.shape key) ws)
+      → ((p : ℕ) → p < places_in (g.shape key) → turn_word ws p ≡ 0) → HasRoom (places_in (g.shape key)) (map some xs) → g.keeps key (count_word (g.shape key) ws)
       → ((p : ℕ) → p < places_in (g.shape key) → (x : T) × (get_elem? xs p ≡ some (Value x)) × g.sound key p x × g.owes key (count_word (g.shape key) ws) p x)
       → Kept g key (opening ws xs (rooted (g.shape key)))
-  opens ws xs wide deep room keeps homes = let R : View = rooted (g.shape key) in record {
+  opens ws xs wide deep zeros room keeps homes = let R : View = rooted (g.shape key) in record {
     wide = wide;
     deep = length_map xs ∙ deep;
     room = room;
     kept = keeps;
+    unheld = λ q within none. zeros q within;
     shaped = each_one R (λ u. IsInUse u → u.shape ≡ g.shape key) (λ used. refl);
     named = each_one R (λ u. (q : ℕ) → 0 < held u q → (0 < u.number) × (turn_word ws q ≡ u.number) × (q < places_in (g.shape key))) (λ q h. absurd (omega arith));
     apart = λ i j u x ati atj pos same. each_one R (λ u. 0 < u.number → i ≡ j) (λ h. absurd (omega arith)) i u ati pos;

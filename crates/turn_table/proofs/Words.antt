@@ -56,6 +56,7 @@ module _ {T K : Type 0} (g : Ghosts T K) (key : K) where
         apart = r.apart;
         home = subst (λ f. (p : ℕ) → p < places_in (g.shape key) → Each s.views (λ v. held v p < 2) → IsHome g key f s.views s.homes p) counted r.home;
         empty = r.empty;
+        unheld = λ q within none. turns q ∙ r.unheld q within none;
         noted = subst (λ (f : ℕ → ℕ). Each s.views (λ v. (c : ℕ) → 0 < note v c → (c < words_in (g.shape key)) × (is_spoken_for (g.shape key) (held v) c ≡ true) × (note v c ≡ suc (f c)))) counted r.noted;
         lower = subst (λ (f : ℕ → ℕ). Each s.views (λ v. (c : ℕ) → mark v c ≤ f c)) counted r.lower;
         kept = subst (g.keeps key) counted r.kept;
@@ -176,6 +177,7 @@ module _ {T K : Type 0} (g : Ghosts T K) (key : K) where
           let old = each s.views id w (λ u. (p : ℕ) → 0 < held u p → (0 < u.number) × (turn_word s.words p ≡ u.number) × (p < places_in (g.shape key))) r.named (r.named id v e) j u at p h in
           (old.0, turn_at p old.2 ∙ old.1, old.2);
       apart = seats.apart;
+      unheld = λ q within none. turn_at q within ∙ r.unheld q within (λ j u at. alike j id (λ me. let u_v : v ≡ u = some-injective v u (sym e ∙ ap (λ k. get_elem? s.views k) (sym me) ∙ at) in subst (λ k. held k q ≡ 0) u_v (none id w (set_there s.views id v w e))) (λ other. none j u (set_else s.views id j w other ∙ at)));
       home = subst (λ f. (p : ℕ) → p < places_in (g.shape key) → Each (set s.views id w) (λ u. held u p < 2) → IsHome g key f (set s.views id w) s.homes p) words_at written_home;
       empty = each s.views id w (λ u. (q : ℕ) → held u q ≡ 2 → get_elem? s.homes q ≡ some (some Empty)) r.empty (r.empty id v e);
       noted = subst (λ (f : ℕ → ℕ). Each (set s.views id w) (λ u. (q : ℕ) → IsNoted u q (f q))) words_at

@@ -66,6 +66,8 @@ module _ {T K : Type 0} (g : Ghosts T K) (key : K) where
     pub shaped : Each s.views (λ v. IsInUse v → v.shape ≡ g.shape key)
     -- who holds a place is a pass with a number, and the turn word of the place names that pass
     pub named : Each s.views (λ v. (p : ℕ) → 0 < held v p → (0 < v.number) × (turn_word s.words p ≡ v.number) × (p < places_in (g.shape key)))
+    -- the turn word of a place that no pass holds is 0
+    pub unheld : (p : ℕ) → p < places_in (g.shape key) → Each s.views (λ v. held v p ≡ 0) → turn_word s.words p ≡ 0
     -- no two passes have one number; with the line before, no two hold one place
     pub apart : (i j : ℕ) (v w : View) → get_elem? s.views i ≡ some v → get_elem? s.views j ≡ some w → 0 < v.number → v.number ≡ w.number → i ≡ j
     -- a value that no pass moved out is at home
