@@ -14,7 +14,7 @@ use Rattle.command_words.specs.declared.name.CommandName.TheVariants.{Dml, Check
 use Rattle.command_words.specs.Landed.{has_landed}
 use Rattle.command_words.specs.Numbers.{is_number, value_of_digits}
 use Rattle.command_words.specs.Table.{Text, DefaultBudget, DefaultSize, DefaultThreshold, DefaultWorkers, LargestBudget, LargestSeed, LargestSize, LargestThreshold, LatestUntil, MostFiles, MostParts, MostWorkers, fits_option, is_alignment, is_one_of, is_within, row, same_text, takes_value}
-use Rattle.command_words.specs.Words.{AllFit, IsAlignInRange, IsInRange, IsLanded, align_of, align_or_net, all_landed, asked_by, asked_of_words, command_by, command_in_table, command_of_words, files_in, have_values, is_in_row, is_plain_or_landed, is_plain_word, is_value_of, is_word_of, name_of, number_or, stand_once, value_of}
+use Rattle.command_words.specs.Words.{AllFit, Asked, IsAlignInRange, IsInRange, IsLanded, align_of, align_or_net, all_landed, asked_by, asked_of_words, command_by, command_in_table, command_of_words, files_in, have_values, is_in_row, is_plain_or_landed, is_plain_word, is_value_of, is_word_of, name_of, number_or, stand_once, value_of}
 use Rattle.command_words.specs.Parsed.{IsInTable, IsMatched}
 use Rattle.command_words.proofs.Walks.{values_after, values_here}
 use Rattle.command_words.proofs.Lookups.{value_here, value_skips}
@@ -123,6 +123,14 @@ module _ (value : Text → Option Text) (fit : AllFit value) where
 pub asked_none : (words : List Text) → command_of_words words ≡ None → asked_of_words words ≡ None
 unfolding asked_of_words
 asked_none words is = ap (option_map (λ (name : CommandName). asked_by name (drop 1 words))) is
+
+-- words with a command ask something
+pub asked_is : (words : List Text) (name : CommandName) → command_of_words words ≡ Some name → asked_of_words words ≡ None → ⊥
+unfolding asked_of_words
+asked_is words name is none = go (sym (ap (option_map (λ (n : CommandName). asked_by n (drop 1 words))) is) ∙ none)
+  where
+    go : ◌≡◌ {A = Option Asked} (Some (asked_by name (drop 1 words))) None → ⊥
+    go e = cc
 
 by_words : (f : Found) (words : List Text) → IsMatched f words → (name : CommandName) (flat : Bool)
     → command_by name (λ option. first_value f (drop 2 option)) flat ≡ command_by name (λ option. value_of option words) flat

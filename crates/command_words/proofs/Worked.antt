@@ -1,9 +1,12 @@
 -- Worked words, computed from the definitions.
-use Rattle.std.proofs.Common.{◌≡◌, [], ◌∷◌, Some, None, true, false, refl, codes}
+use Rattle.std.proofs.Common.{◌≡◌, [], ◌∷◌, Some, None, true, false, refl, codes, not, is_some, Bool, List, ◌++◌}
+use Rattle.std.specs.List.{list_all}
+use Rattle.command_words.specs.declared.command.Align.TheVariants as align
+use Rattle.command_words.specs.Table.{Text}
 use Rattle.command_words.specs.declared.command.Command.TheVariants as commands
 use Rattle.command_words.specs.declared.name.CommandName.TheVariants.{Run, Step, Gen}
 use Rattle.command_words.specs.Schedule.{is_schedule, parts}
-use Rattle.command_words.specs.Words.{all_landed, asked_of_words, command_in_table, command_of_words, files_in, have_values, stand_once, value_of}
+use Rattle.command_words.specs.Words.{all_landed, asked_of_words, asked_by, command_in_table, command_of_words, files_in, have_values, stand_once, value_of}
 
 seq_words : asked_of_words (codes "seq" ∷ codes "--until" ∷ codes "10" ∷ codes "m.dml" ∷ []) ≡ Some (record { command = commands.Seq 10 1000000000; schedule = None; report = false; files = codes "m.dml" ∷ [] })
 unfolding asked_of_words command_of_words command_in_table all_landed stand_once have_values files_in value_of is_schedule parts
@@ -134,3 +137,104 @@ step_with_zero = refl
 comma_at_the_end : is_schedule (codes "c,") ≡ false
 unfolding command_of_words asked_of_words command_in_table all_landed stand_once have_values files_in value_of is_schedule parts
 comma_at_the_end = refl
+
+-- each option twice, with a value that begins with `-`, with `=`, abbreviated, and at the ends of its range
+
+abbrev in_table : List Text → Bool
+in_table words = is_some (command_in_table words)
+
+step_refusals : list_all (λ more. not (in_table ((codes "step" ∷ codes "m.dml" ∷ codes "--until" ∷ codes "1" ∷ []) ++ more)))
+    ((codes "--align" ∷ codes "one" ∷ codes "--align" ∷ codes "one" ∷ [])
+    ∷ (codes "--threshold" ∷ codes "0" ∷ codes "--threshold" ∷ codes "0" ∷ [])
+    ∷ (codes "--schedule" ∷ codes "c" ∷ codes "--schedule" ∷ codes "c" ∷ [])
+    ∷ (codes "--report" ∷ codes "--report" ∷ [])
+    ∷ (codes "--align" ∷ codes "-1" ∷ [])
+    ∷ (codes "--threshold" ∷ codes "-1" ∷ [])
+    ∷ (codes "--schedule" ∷ codes "-c" ∷ [])
+    ∷ (codes "--align=one" ∷ [])
+    ∷ (codes "--threshold=0" ∷ [])
+    ∷ (codes "--schedule=c" ∷ [])
+    ∷ (codes "--report=true" ∷ [])
+    ∷ (codes "--ali" ∷ codes "one" ∷ [])
+    ∷ (codes "--thr" ∷ codes "0" ∷ [])
+    ∷ (codes "--sch" ∷ codes "c" ∷ [])
+    ∷ (codes "--rep" ∷ [])
+    ∷ (codes "--align" ∷ codes "0" ∷ [])
+    ∷ (codes "--align" ∷ codes "4097" ∷ [])
+    ∷ (codes "--align" ∷ codes "all" ∷ [])
+    ∷ (codes "--threshold" ∷ codes "1000000000000001" ∷ [])
+    ∷ (codes "--budget" ∷ codes "0" ∷ [])
+    ∷ (codes "--budget" ∷ codes "1000000000001" ∷ [])
+    ∷ (codes "--workers" ∷ codes "1" ∷ [])
+    ∷ (codes "--schedule" ∷ codes "x" ∷ [])
+    ∷ (codes "--flat" ∷ [])
+    ∷ []) ≡ true
+unfolding command_of_words asked_of_words command_in_table all_landed stand_once have_values files_in value_of is_schedule parts
+step_refusals = refl
+
+steps_taken : list_all (λ more. in_table ((codes "step" ∷ codes "m.dml" ∷ codes "--until" ∷ codes "1" ∷ []) ++ more))
+    ((codes "--align" ∷ codes "one" ∷ [])
+    ∷ (codes "--align" ∷ codes "host" ∷ [])
+    ∷ (codes "--align" ∷ codes "net" ∷ [])
+    ∷ (codes "--align" ∷ codes "1" ∷ [])
+    ∷ (codes "--align" ∷ codes "4096" ∷ [])
+    ∷ (codes "--threshold" ∷ codes "0" ∷ [])
+    ∷ (codes "--threshold" ∷ codes "1000000000000000" ∷ [])
+    ∷ (codes "--budget" ∷ codes "1" ∷ [])
+    ∷ (codes "--budget" ∷ codes "1000000000000" ∷ [])
+    ∷ (codes "--schedule" ∷ codes "x0,p0.4,c" ∷ [])
+    ∷ (codes "--report" ∷ [])
+    ∷ []) ≡ true
+unfolding command_of_words asked_of_words command_in_table all_landed stand_once have_values files_in value_of is_schedule parts
+steps_taken = refl
+
+run_refusals : list_all (λ more. not (in_table ((codes "run" ∷ codes "m.dml" ∷ codes "--until" ∷ codes "1" ∷ []) ++ more)))
+    ((codes "--workers" ∷ codes "1" ∷ codes "--workers" ∷ codes "1" ∷ [])
+    ∷ (codes "--workers" ∷ codes "-1" ∷ [])
+    ∷ (codes "--workers=1" ∷ [])
+    ∷ (codes "--wor" ∷ codes "1" ∷ [])
+    ∷ (codes "--workers" ∷ codes "0" ∷ [])
+    ∷ (codes "--workers" ∷ codes "65" ∷ [])
+    ∷ (codes "--schedule" ∷ codes "c" ∷ [])
+    ∷ (codes "--size" ∷ codes "1" ∷ [])
+    ∷ []) ≡ true
+unfolding command_of_words asked_of_words command_in_table all_landed stand_once have_values files_in value_of is_schedule parts
+run_refusals = refl
+
+gen_refusals : list_all (λ more. not (in_table ((codes "gen" ∷ []) ++ more)))
+    ((codes "--seed" ∷ codes "1" ∷ codes "--seed" ∷ codes "1" ∷ [])
+    ∷ (codes "--seed" ∷ codes "1" ∷ codes "--size" ∷ codes "1" ∷ codes "--size" ∷ codes "1" ∷ [])
+    ∷ (codes "--seed" ∷ codes "-1" ∷ [])
+    ∷ (codes "--seed=1" ∷ [])
+    ∷ (codes "--see" ∷ codes "1" ∷ [])
+    ∷ (codes "--seed" ∷ codes "1000000000000000001" ∷ [])
+    ∷ (codes "--seed" ∷ codes "1" ∷ codes "--size" ∷ codes "0" ∷ [])
+    ∷ (codes "--seed" ∷ codes "1" ∷ codes "--size" ∷ codes "1001" ∷ [])
+    ∷ (codes "--seed" ∷ codes "1" ∷ codes "--size=1" ∷ [])
+    ∷ (codes "--seed" ∷ codes "1" ∷ codes "--siz" ∷ codes "1" ∷ [])
+    ∷ (codes "--size" ∷ codes "1" ∷ [])
+    ∷ (codes "--seed" ∷ codes "1" ∷ codes "--until" ∷ codes "1" ∷ [])
+    ∷ []) ≡ true
+unfolding command_of_words asked_of_words command_in_table all_landed stand_once have_values files_in value_of is_schedule parts
+gen_refusals = refl
+
+gens_taken : list_all (λ more. in_table ((codes "gen" ∷ []) ++ more))
+    ((codes "--seed" ∷ codes "0" ∷ codes "--size" ∷ codes "1000" ∷ [])
+    ∷ (codes "--size" ∷ codes "1" ∷ codes "--seed" ∷ codes "1000000000000000000" ∷ [])
+    ∷ []) ≡ true
+unfolding command_of_words asked_of_words command_in_table all_landed stand_once have_values files_in value_of is_schedule parts
+gens_taken = refl
+
+-- what is left out
+
+run_defaults : asked_by Run (codes "--until" ∷ codes "5" ∷ codes "m.dml" ∷ []) ≡ record { command = commands.Run 5 1000000000 align.Net 0 4; schedule = None; report = false; files = codes "m.dml" ∷ [] }
+unfolding command_of_words asked_of_words command_in_table all_landed stand_once have_values files_in value_of is_schedule parts
+run_defaults = refl
+
+step_asked : asked_by Step (codes "--align" ∷ codes "7" ∷ codes "--report" ∷ codes "--until" ∷ codes "5" ∷ codes "m.dml" ∷ codes "--threshold" ∷ codes "9" ∷ codes "--schedule" ∷ codes "c" ∷ codes "--budget" ∷ codes "3" ∷ []) ≡ record { command = commands.Step 5 3 (align.Parts 7) 9; schedule = Some (codes "c"); report = true; files = codes "m.dml" ∷ [] }
+unfolding command_of_words asked_of_words command_in_table all_landed stand_once have_values files_in value_of is_schedule parts
+step_asked = refl
+
+gen_defaults : asked_by Gen (codes "--seed" ∷ codes "7" ∷ []) ≡ record { command = commands.Gen 7 10; schedule = None; report = false; files = [] }
+unfolding command_of_words asked_of_words command_in_table all_landed stand_once have_values files_in value_of is_schedule parts
+gen_defaults = refl

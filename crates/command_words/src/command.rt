@@ -5,9 +5,9 @@
 pub enum Align {
     /// All entities on one timeline.
     One,
-    /// Each entity on a timeline of its own.
+    /// Each entity on a timeline of its own, but for those that a mapping without delay joins.
     Host,
-    /// The entities of a Net on one timeline.
+    /// The entities of one innermost Net on one timeline, and all nodes of a ring; joined as those of `Host`.
     Net,
     /// So many parts of as many entities as can be, by their numbers; 1 to 4096.
     Parts(u64),

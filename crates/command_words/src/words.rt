@@ -1,5 +1,5 @@
 //! What words ask.
-ghost use Rattle.std.specs.Prelude.{◌≡◌, ◌≤◌, vec_len, length, Bool, map, option_map, string_bytes, codes, [], drop, unwrap_or, IfOk, IsErrOf, None, Some};
+ghost use Rattle.std.specs.Prelude.{◌≡◌, ◌≤◌, vec_len, length, Bool, map, option_map, string_bytes, codes, [], drop, unwrap_or, IfOk, IsErrOf, IsErrAnd, None, Some};
 ghost use Rattle.clap.specs.Words.{first_value, found_of, matched_of, one_text, raw_values};
 ghost use Rattle.command_words.specs.Parsed.{flag_text};
 ghost use Rattle.command_words.specs.Table.{MostFiles};
@@ -54,6 +54,7 @@ fn request_of(alloc: Global, name: CommandName, matches: &ArgMatches) -> Result<
 pub fn read_words(alloc: Global, words: &[String]) -> Result<Request, WordsFault>
     ensures ok { IfOk result (λ r. asked_of_words (map string_bytes words.now) ≡ Some (record { command = r.command; schedule = option_map string_bytes r.schedule; report = r.report; files = map string_bytes r.files.items })) }
     ensures words { IsErrOf result WordsFault.Words → asked_of_words (map string_bytes words.now) ≡ None }
+    ensures refused { asked_of_words (map string_bytes words.now) ≡ None → IsErrAnd result (λ fault. fault ≡ WordsFault.Words) }
     ensures range { IfOk result (λ r. IsInRange r.command) }
     ensures landed { IfOk result (λ r. IsLanded r.command) }
     ensures files { IfOk result (λ r. vec_len r.files ≤ MostFiles) }

@@ -291,10 +291,12 @@ fn dml_on(alloc: Global, files: usize) -> Result<Vec<String>, Fail> {
 fn a_model_has_1_to_64_files(rt: HostRuntime) -> Result<(), Fail> {
     let alloc = rt.alloc();
     let most = dml_on(alloc, 64)?;
-    assert!(rt; read_words(alloc, most.as_slice()).is_ok());
+    assert!(rt;
+        matches!(read_words(alloc, most.as_slice()), Ok(request) if request.files.len() == 64)
+    );
     let more = dml_on(alloc, 65)?;
-    assert!(rt; read_words(alloc, more.as_slice()).is_err());
+    assert!(rt; matches!(read_words(alloc, more.as_slice()), Err(WordsFault::Words)));
     let none = dml_on(alloc, 0)?;
-    assert!(rt; read_words(alloc, none.as_slice()).is_err());
+    assert!(rt; matches!(read_words(alloc, none.as_slice()), Err(WordsFault::Words)));
     Ok(())
 }

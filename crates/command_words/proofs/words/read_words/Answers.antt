@@ -6,7 +6,7 @@ use Rattle.command_words.specs.declared.words.Request.{Request}
 use Rattle.command_words.specs.Parsed.{IsMatched}
 use Rattle.command_words.specs.Table.{Text, MostFiles, is_one_of}
 use Rattle.command_words.specs.Words.{AllFit, IsInRange, files_in}
-use Rattle.command_words.proofs.Asked.{asked_none, asked_some, command_landed, command_range, files_few, if_all, if_both, landed_by, matched_fit}
+use Rattle.command_words.proofs.Asked.{asked_is, asked_none, asked_some, command_landed, command_range, files_few, if_all, if_both, landed_by, matched_fit}
 use Rattle.command_words.proofs.words.read_words.Goals as goal
 
 pub returns-in_default-clause-words : goal.returns-in_default-clause-words
@@ -55,3 +55,9 @@ returns-clause-files c =
     let m : IsMatched f (drop 1 words) = c.in_ok-matches.ensures.matched in
     let few : length (files_in false (drop 1 words)) ≤ MostFiles = files_few c.in-Some.name words c.in-Some.ensures.in_table in
     if_both c.request_of.result _ _ _ (λ (r : Request) files len. omega (arith, len, ap length (files ∙ m.files), few)) c.request_of.ensures.files c.request_of.ensures.len
+
+pub returns-clause-refused : goal.returns-clause-refused
+returns-clause-refused c = λ none. absurd (asked_is (map string_bytes c.args.words.now) c.in-Some.name (sym c.command_of.ensures.command ∙ c.in-Some.is) none)
+
+pub returns-in_err-matches-clause-refused : goal.returns-in_err-matches-clause-refused
+returns-in_err-matches-clause-refused c = λ none. absurd (asked_is (map string_bytes c.args.words.now) c.in-Some.name (sym c.command_of.ensures.command ∙ c.in-Some.is) none)
