@@ -14,7 +14,7 @@ use Rattle.turn_table.specs.declared.tenant.Tenant.{Ghosts}
 use Rattle.turn_table.specs.declared.view.View.{View}
 use Rattle.turn_table.specs.Changes.{at, put}
 use Rattle.turn_table.specs.Shapes.{places_in, words_in, is_marked, is_cleared}
-use Rattle.turn_table.specs.Views.{held, mark, is_spoken_for, holding, taking, losing, giving, reading, writing, looking}
+use Rattle.turn_table.specs.Views.{held, note, mark, is_spoken_for, holding, taking, losing, giving, reading, writing, looking}
 use Rattle.turn_table.specs.Rule.{turn_word, count_word, IsHome, Kept}
 use Rattle.turn_table.specs.Steps.{Tells, Pays, tried, reached, emptied, entered, settled, given, read, written, looked, raised}
 use Rattle.turn_table.proofs.Lookups.{alike, at_here, at_else, forgotten, forget_or, forget_left, cond_here, cond_else}
@@ -223,7 +223,8 @@ module _ {T K : Type 0} (g : Ghosts T K) (key : K) where
             (λ same. subst (λ f. g.marked key f q x) (sym same) m)
             (marks_of (is_marked v.shape c) v.marks c n);
       })),
-      λ q at. of_count q (λ q. Is (reading v c n, hand) (reading v q n, hand)) at refl,
+      λ q at. of_count q (λ q. Is (reading v c n, hand) (reading v q n, hand) × (mark v q ≤ n) × (0 < note v q → note v q ≡ suc n)) at
+          (refl, (let l = r.lower id v e c in omega arith), λ h. (r.noted id v e c h).2 ∙ ap suc (sym now)),
     )
 
     pub writes : (n : ℕ) → Writes g key v c n → Allows (Kept g key) slots id (v, hand) i (λ m. n) (λ m. written (step slots i n 0 none) (v, hand) n)

@@ -74,9 +74,9 @@ module _ {T : Type 0} where
   abbrev pub given : Step (Cell T) → Me (Cell T) View → ℕ → Me (Cell T) View → Type 0
   given st m r n = OfTurn st (λ p. n ≡ (giving m.0 p, m.1))
 
-  -- a count word was read
+  -- a count word was read, whose number fits the mark and the note of it
   abbrev pub read : Step (Cell T) → Me (Cell T) View → ℕ → Me (Cell T) View → Type 0
-  read st m r n = OfCount st (λ c. n ≡ (reading m.0 c r, m.1))
+  read st m r n = OfCount st (λ c. (n ≡ (reading m.0 c r, m.1)) × (mark m.0 c ≤ r) × (0 < note m.0 c → note m.0 c ≡ suc r))
 
   -- a count word was written
   abbrev pub written : Step (Cell T) → Me (Cell T) View → ℕ → Me (Cell T) View → Type 0

@@ -33,7 +33,7 @@ pub struct Turns<V: Tenant> {
 
 impl<V: Tenant> Turns<V> {
     ghost use Rattle.turn_table.specs.declared.pass.Pass.{Pass};
-    ghost use Rattle.turn_table.specs.Passes.{view_of, holds_at, note_of, HoldsNone};
+    ghost use Rattle.turn_table.specs.Passes.{view_of, holds_at, mark_of, note_of};
     ghost use Rattle.turn_table.specs.Shapes.{spoken};
     ghost use Rattle.turn_table.specs.Turned.{table_of, key_of, count_of, places_of, words_of, IsPassOf};
     ghost use Rattle.turn_table.specs.Steps.{Fits, Above, Tells, Pays, KeepsWith};
@@ -163,11 +163,15 @@ impl<V: Tenant> Turns<V> {
     }
 
     /// The number of a count word. It is noted where the word speaks of a place that the pass holds, and marked where the word speaks of one place alone.
+    ///
+    /// The number is never below the pass's mark, and it is the noted one where the pass has a note.
     pub fn load(&self, pass: &mut Pass, word: u32) -> u64
         requires pass { IsPassOf V.Tenant self.now pass.old }
         requires word { word < words_of V.Tenant self.now }
         ensures pass { IsPassOf V.Tenant self.now pass.new }
         ensures view { view_of pass.new ≡ reading (view_of pass.old) word result }
+        ensures mark { mark_of pass.old word ≤ result }
+        ensures note { 0 < note_of pass.old word → note_of pass.old word ≡ suc result }
     {
         let index = self.board.places as usize + 1 + word as usize;
         let mut seat = pass.sit();

@@ -1,11 +1,11 @@
-use Rattle.std.proofs.Common.{ℕ, ◌+◌, [], refl, ap, ◌∙◌}
+use Rattle.std.proofs.Common.{◌≡◌, ℕ, suc, ◌+◌, ◌<◌, ◌≤◌, [], refl, ap, subst, ◌∙◌}
 use mathlib.Core.Option.{none}
 use Rattle.atomic_table.specs.Table.{step, Me}
 use Rattle.turn_table.specs.declared.view.View.{View}
 use Rattle.turn_table.specs.Rule.{Kept}
 use Rattle.turn_table.specs.Passes.{view_of}
 use Rattle.turn_table.specs.Steps.{read}
-use Rattle.turn_table.specs.Views.{reading}
+use Rattle.turn_table.specs.Views.{note, mark, reading}
 use Rattle.turn_table.proofs.Hands.{from, count_at}
 use Rattle.turn_table.proofs.Moves.{reads}
 use Rattle.turn_table.proofs.Reseating.{reseated_by, viewing_by}
@@ -28,7 +28,7 @@ after c n m = (reading m.0 c n, m.1)
 pub rest-requires : goal.rest-requires
 rest-requires g c =
     let here = count_at c.args.self.now.board.table.shared.table_id _ c.args.pass.now c.args.self.now.board.places c.args.word c.args.self.now.board.slots c.requires.pass c.requires.word in
-    let told = c.load-found.ensures.2 c.args.word here.2 in ap (λ (m : Me _ View). m.1) (told ∙ ap (after c.args.word c.load-found.result) c.sit-seat.ensures.me)
+    let told = c.load-found.ensures.2 c.args.word here.2 in ap (λ (m : Me _ View). m.1) (told.0 ∙ ap (after c.args.word c.load-found.result) c.sit-seat.ensures.me)
 
 pub returns-clause-pass : goal.returns-clause-pass
 returns-clause-pass g c =
@@ -36,11 +36,27 @@ returns-clause-pass g c =
     let told = c.load-found.ensures.2 c.args.word here.2 in
     reseated_by _ _ c.args.pass.now c.rest.new.self c.load-found.new.seat.me (reading (view_of c.args.pass.now) c.args.word c.load-found.result) [] c.requires.pass
     (c.rest.ensures.table ∙ c.load-found.ensures.0 ∙ c.sit-seat.ensures.table ∙ c.requires.pass.table) c.rest.ensures.views (c.rest.ensures.number ∙ c.sit-seat.ensures.number)
-    (told ∙ ap (after c.args.word c.load-found.result) c.sit-seat.ensures.me) refl refl
+    (told.0 ∙ ap (after c.args.word c.load-found.result) c.sit-seat.ensures.me) refl refl
 
 pub returns-clause-view : goal.returns-clause-view
 returns-clause-view g c =
     let here = count_at c.args.self.now.board.table.shared.table_id _ c.args.pass.now c.args.self.now.board.places c.args.word c.args.self.now.board.slots c.requires.pass c.requires.word in
     let told = c.load-found.ensures.2 c.args.word here.2 in
     viewing_by c.rest.new.self c.load-found.new.seat.me (reading (view_of c.args.pass.now) c.args.word c.load-found.result) [] c.rest.ensures.views
-    (told ∙ ap (after c.args.word c.load-found.result) c.sit-seat.ensures.me)
+    (told.0 ∙ ap (after c.args.word c.load-found.result) c.sit-seat.ensures.me)
+
+abbrev AtMost : {S : Type 0} → ℕ → ℕ → Me S View → Type 0
+AtMost c n m = mark m.0 c ≤ n
+
+abbrev IsNoted : {S : Type 0} → ℕ → ℕ → Me S View → Type 0
+IsNoted c n m = 0 < note m.0 c → note m.0 c ≡ suc n
+
+pub returns-clause-mark : goal.returns-clause-mark
+returns-clause-mark g c =
+    let here = count_at c.args.self.now.board.table.shared.table_id _ c.args.pass.now c.args.self.now.board.places c.args.word c.args.self.now.board.slots c.requires.pass c.requires.word in
+    subst (AtMost c.args.word c.load-found.result) c.sit-seat.ensures.me (c.load-found.ensures.2 c.args.word here.2).1
+
+pub returns-clause-note : goal.returns-clause-note
+returns-clause-note g c =
+    let here = count_at c.args.self.now.board.table.shared.table_id _ c.args.pass.now c.args.self.now.board.places c.args.word c.args.self.now.board.slots c.requires.pass c.requires.word in
+    subst (IsNoted c.args.word c.load-found.result) c.sit-seat.ensures.me (c.load-found.ensures.2 c.args.word here.2).2
