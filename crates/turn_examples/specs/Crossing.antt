@@ -1,5 +1,5 @@
 -- The miniature crossing: a worker at place 0 with its done word 0, and a barrier at place 1 with the round word 1. Who takes the barrier's turn loses the mark of the done word.
-use Rattle.std.specs.Prelude.{◌≡◌, ℕ, ◌<◌, ◌≤◌, [], ◌∷◌}
+use Rattle.std.specs.Prelude.{◌≡◌, ℕ, suc, ◌<◌, ◌≤◌, [], ◌∷◌}
 use Rattle.turn_table.specs.declared.view.Shape.{Shape}
 use Rattle.turn_table.specs.Shapes.{Speaks}
 use Rattle.turn_examples.specs.declared.crossing.Part.{Part}
@@ -15,6 +15,6 @@ Owes f p x = (c : ℕ) → Speaks crossing_shape c p → f c ≡ x.number
 abbrev pub Keeps : (ℕ → ℕ) → Type 0
 Keeps f = f 1 ≤ f 0
 
--- while the barrier is at home, its round is at most what its holder has marked as done, where it has a mark
+-- while the barrier is at home, what its holder has marked as done has reached its round, where it has a mark
 abbrev pub Marked : (ℕ → ℕ) → ℕ → Part → Type 0
-Marked m p x = p ≡ 1 → 0 < m 0 → x.number ≤ m 0
+Marked m p x = p ≡ 1 → 0 < m 0 → suc x.number ≤ m 0

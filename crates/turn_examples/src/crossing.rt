@@ -58,7 +58,7 @@ pub fn work(turns: &Turns<Part>, pass: &mut Pass) -> bool
     true
 }
 
-/// The barrier's round becomes what the worker has done, where the barrier's turn was won and something was done.
+/// The barrier's round becomes what the worker has done, where the barrier's turn was won.
 ///
 /// The done word is marked while the barrier is still at home.
 pub fn cross(turns: &Turns<Part>, pass: &mut Pass) -> bool
@@ -72,10 +72,6 @@ pub fn cross(turns: &Turns<Part>, pass: &mut Pass) -> bool
     };
     let _round = turns.load(pass, 1);
     let done = turns.load(pass, 0);
-    if done == 0 {
-        turns.leave(pass, turn);
-        return false;
-    }
     let mut barrier = turns.bring(pass, turn);
     barrier.value().number = done;
     turns.write(pass, 1, done);

@@ -99,7 +99,7 @@ module _ {T K : Type 0} (g : Ghosts T K) (key : K) where
       noted = each s.views id w (λ u. (c : ℕ) → 0 < note u c → (c < words_in (g.shape key)) × (is_spoken_for (g.shape key) (held u) c ≡ true) × (note u c ≡ suc (count_word (g.shape key) ws c)))
           (λ j u at c h. let n = r.noted j u at c h in (n.0, n.1, n.2 ∙ ap suc (sym (t.counts c))))
           (λ c h. let k = t.notes c h in let n = r.noted id v e c (let l = k.0 in omega arith) in (n.0, k.1, k.0 ∙ n.2 ∙ ap suc (sym (t.counts c))));
-      lower = each s.views id w (λ u. (c : ℕ) → mark u c ≤ count_word (g.shape key) ws c)
+      lower = each s.views id w (λ u. (c : ℕ) → mark u c ≤ suc (count_word (g.shape key) ws c))
           (λ j u at c. let l = r.lower j u at c in let k = t.counts c in omega arith)
           (λ c. let l = r.lower id v e c in let k = t.counts c in ⊎_elim (λ z. omega arith) (λ m. omega arith) (t.marks c));
       kept = subst (g.keeps key) touched_counts r.kept;
@@ -112,7 +112,7 @@ module _ {T K : Type 0} (g : Ghosts T K) (key : K) where
     pub self : IsSelf v w
     pub helds : (q : ℕ) → held w q ≡ held v q
     pub notes : (c : ℕ) → 0 < note w c → (note w c ≡ note v c) ⊎ ((c < words_in (g.shape key)) × (is_spoken_for (g.shape key) (held w) c ≡ true) × (note w c ≡ suc (count_word (g.shape key) s.words c)))
-    pub lower : (c : ℕ) → mark w c ≤ count_word (g.shape key) s.words c
+    pub lower : (c : ℕ) → mark w c ≤ suc (count_word (g.shape key) s.words c)
     pub marked : (q : ℕ) (x : T) → g.owes key (count_word (g.shape key) s.words) q x → g.marked key (mark v) q x → g.marked key (mark w) q x
 
   module _ (s : State (Cell T) View) (r : Kept g key s) (id : ℕ) (v w : View) (e : get_elem? s.views id ≡ some v) (t : Look s id v w) where
@@ -150,7 +150,7 @@ module _ {T K : Type 0} (g : Ghosts T K) (key : K) where
           (λ c h. ⊎_elim
           (λ k. let n = r.noted id v e c (omega arith) in (n.0, subst (λ f. is_spoken_for (g.shape key) f c ≡ true) helds_eq n.1, k ∙ n.2))
           (λ n. n) (t.notes c h));
-      lower = each s.views id w (λ u. (c : ℕ) → mark u c ≤ count_word (g.shape key) s.words c) r.lower t.lower;
+      lower = each s.views id w (λ u. (c : ℕ) → mark u c ≤ suc (count_word (g.shape key) s.words c)) r.lower t.lower;
       kept = r.kept;
       numbered = seats.numbered;
       counted = seats.counted;

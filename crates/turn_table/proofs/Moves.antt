@@ -217,13 +217,13 @@ module _ {T K : Type 0} (g : Ghosts T K) (key : K) where
             (notes_of (is_spoken_for v.shape (at v.held) c) v.notes c (suc n) q);
         lower = λ q. let l = r.lower id v e q in ⊎_elim (λ same. omega arith)
             (λ t. let a = t.2 in let b : count_word (g.shape key) s.words q ≡ count_word (g.shape key) s.words c = ap (count_word (g.shape key) s.words) t.1 in omega arith)
-            (notes_of (is_marked v.shape c) v.marks c n q);
+            (notes_of (is_marked v.shape c) v.marks c (suc n) q);
         marked = λ q x owed m. ⊎_elim
-            (λ same. subst (λ f. g.marked key f q x) (sym same) (subst (λ (k : ℕ). g.marked key (put (mark v) c k) q x) (sym now) (g.marks key (count_word (g.shape key) s.words) (mark v) q x c r.kept owed m)))
+            (λ same. subst (λ f. g.marked key f q x) (sym same) (subst (λ (k : ℕ). g.marked key (put (mark v) c (suc k)) q x) (sym now) (g.marks key (count_word (g.shape key) s.words) (mark v) q x c r.kept owed m)))
             (λ same. subst (λ f. g.marked key f q x) (sym same) m)
-            (marks_of (is_marked v.shape c) v.marks c n);
+            (marks_of (is_marked v.shape c) v.marks c (suc n));
       })),
-      λ q at. of_count q (λ q. Is (reading v c n, hand) (reading v q n, hand) × (mark v q ≤ n) × (0 < note v q → note v q ≡ suc n)) at
+      λ q at. of_count q (λ q. Is (reading v c n, hand) (reading v q n, hand) × (mark v q ≤ suc n) × (0 < note v q → note v q ≡ suc n)) at
           (refl, (let l = r.lower id v e c in omega arith), λ h. (r.noted id v e c h).2 ∙ ap suc (sym now)),
     )
 

@@ -1,5 +1,5 @@
 -- For crates above: what a view still says after a step at another place.
-use Rattle.std.proofs.Common.{◌≡◌, ◌≢◌, ℕ, ◌<◌, not, ◌∷◌, ap, ◌∙◌, inl, inr, ⊎_elim, arith}
+use Rattle.std.proofs.Common.{◌≡◌, ◌≢◌, ℕ, ◌<◌, not, ◌∷◌, ap, inl, inr, ⊎_elim, arith}
 use Rattle.turn_table.specs.declared.view.View.{View}
 use Rattle.turn_table.specs.Changes.{at}
 use Rattle.turn_table.specs.Shapes.{Speaks, spoken}

@@ -119,7 +119,7 @@ module _ {T K : Type 0} (g : Ghosts T K) (key : K) where
       };
       empty = over (λ u. (q : ℕ) → held u q ≡ 2 → get_elem? s.homes q ≡ some (some Empty)) r.empty (r.empty id v e) (λ q h. absurd (omega arith));
       noted = over (λ u. (c : ℕ) → 0 < note u c → (c < words_in (g.shape key)) × (is_spoken_for (g.shape key) (held u) c ≡ true) × (note u c ≡ suc (count_word (g.shape key) s.words c))) r.noted (r.noted id v e) (λ c h. absurd (omega arith));
-      lower = over (λ u. (c : ℕ) → mark u c ≤ count_word (g.shape key) s.words c) r.lower (r.lower id v e) (λ c. omega arith);
+      lower = over (λ u. (c : ℕ) → mark u c ≤ suc (count_word (g.shape key) s.words c)) r.lower (r.lower id v e) (λ c. omega arith);
       numbered = λ i j u x ati atj is. let a = split_root i u ati is in let made : suc v.made ≡ u.made = ap (λ (k : View). k.made) a.1 in (
         ⊎_elim (λ b. let l = split_low j x b in omega arith) (λ b. let m : suc v.made ≡ x.number = ap (λ (k : View). k.number) b.0 in omega arith) (at_end (set s.views id (made_one v)) (fresh v) x j atj),
         λ too. (split_root j x atj too).0 ∙ sym a.0,
@@ -195,7 +195,7 @@ module _ {T K : Type 0} (g : Ghosts T K) (key : K) where
       unheld = λ q within none. r.unheld q within (back_join (λ u. held u q ≡ 0) (λ h. h) (bare q) none);
       empty = over_join (λ u. (q : ℕ) → held u q ≡ 2 → get_elem? s.homes q ≡ some (some Empty)) r.empty (r.empty id v e) (λ q h. absurd (omega arith));
       noted = over_join (λ u. (c : ℕ) → 0 < note u c → (c < words_in (g.shape key)) × (is_spoken_for (g.shape key) (held u) c ≡ true) × (note u c ≡ suc (count_word (g.shape key) s.words c))) r.noted (r.noted id v e) (λ c h. absurd (omega arith));
-      lower = over_join (λ u. (c : ℕ) → mark u c ≤ count_word (g.shape key) s.words c) r.lower (r.lower id v e) (λ c. omega arith);
+      lower = over_join (λ u. (c : ℕ) → mark u c ≤ suc (count_word (g.shape key) s.words c)) r.lower (r.lower id v e) (λ c. omega arith);
       numbered = λ i j u x ati atj is. let a = join_root i u ati is in let made : v.made ≡ u.made = ap (λ (k : View). k.made) a.1 in (
         ⊎_elim (λ gone. let z : 0 ≡ x.number = ap (λ (k : View). k.number) gone in omega arith) (λ b. let l = (r.numbered id j v b.0 e b.1 root).0 in let m = b.2 in omega arith) (was_there j x atj),
         λ too. (join_root j x atj too).0 ∙ sym a.0,
@@ -229,7 +229,7 @@ module _ {T K : Type 0} (g : Ghosts T K) (key : K) where
     };
     empty = each_one R (λ u. (q : ℕ) → held u q ≡ 2 → get_elem? (map some xs) q ≡ some (some Empty)) (λ q h. absurd (omega arith));
     noted = each_one R (λ u. (c : ℕ) → 0 < note u c → (c < words_in (g.shape key)) × (is_spoken_for (g.shape key) (held u) c ≡ true) × (note u c ≡ suc (count_word (g.shape key) ws c))) (λ c h. absurd (omega arith));
-    lower = each_one R (λ u. (c : ℕ) → mark u c ≤ count_word (g.shape key) ws c) (λ c. omega arith);
+    lower = each_one R (λ u. (c : ℕ) → mark u c ≤ suc (count_word (g.shape key) ws c)) (λ c. omega arith);
     numbered = λ i j u x ati atj is. (each_one R (λ u. (x : View) → get_elem? (R ∷ []) j ≡ some x → x.number ≤ u.made) (λ x at. each_one R (λ x. x.number ≤ 0) (omega arith) j x at) i u ati x atj, λ too. first_only R j x atj ∙ sym (first_only R i u ati));
     counted = each_one R (λ u. u.is_root ≡ true → (u.number ≡ 0) × (living (R ∷ []) + length u.back ≡ u.made)) (λ is. (refl, refl));
   }

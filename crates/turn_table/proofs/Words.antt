@@ -58,7 +58,7 @@ module _ {T K : Type 0} (g : Ghosts T K) (key : K) where
         empty = r.empty;
         unheld = λ q within none. turns q ∙ r.unheld q within none;
         noted = subst (λ (f : ℕ → ℕ). Each s.views (λ v. (c : ℕ) → 0 < note v c → (c < words_in (g.shape key)) × (is_spoken_for (g.shape key) (held v) c ≡ true) × (note v c ≡ suc (f c)))) counted r.noted;
-        lower = subst (λ (f : ℕ → ℕ). Each s.views (λ v. (c : ℕ) → mark v c ≤ f c)) counted r.lower;
+        lower = subst (λ (f : ℕ → ℕ). Each s.views (λ v. (c : ℕ) → mark v c ≤ suc (f c))) counted r.lower;
         kept = subst (g.keeps key) counted r.kept;
         numbered = r.numbered;
         counted = r.counted;
@@ -116,9 +116,9 @@ module _ {T K : Type 0} (g : Ghosts T K) (key : K) where
     marked_on p x owed m = ⊎_elim
         (λ same. subst (λ f. g.marked key f p x) (sym same)
         (let here : put F c n c ≡ n = cond_here c c n (F c) refl in
-        subst (λ (k : ℕ). g.marked key (put (mark v) c k) p x) here (g.marks key (put F c n) (mark v) p x c new_kept owed m)))
+        subst (λ (k : ℕ). g.marked key (put (mark v) c (suc k)) p x) here (g.marks key (put F c n) (mark v) p x c new_kept owed m)))
         (λ same. subst (λ f. g.marked key f p x) (sym same) m)
-        (marks_of (is_marked v.shape c) v.marks c n)
+        (marks_of (is_marked v.shape c) v.marks c (suc n))
 
     -- another pass has no note of the word, since it holds neither place
     foreign : (j : ℕ) (u : View) → j ≢ id → get_elem? s.views j ≡ some u → 0 < note u c → ⊥
@@ -157,15 +157,15 @@ module _ {T K : Type 0} (g : Ghosts T K) (key : K) where
         (λ h. (in_words, speaks_for (g.shape key) (held v) c (inl (let a = t.first in omega arith)), cond_here c c (suc n) (note v c) refl))
         (λ q ne h. let same : note w q ≡ note v q = cond_else q c (suc n) (note v q) ne in let old = r.noted id v e q (omega arith) in (old.0, old.1, same ∙ old.2))
 
-    lower_here : (q : ℕ) → mark w q ≤ put F c n q
+    lower_here : (q : ℕ) → mark w q ≤ suc (put F c n q)
     lower_here q = ⊎_elim
-        (λ same. let m : mark w q ≡ put (mark v) c n q = ap (λ (f : ℕ → ℕ). f q) same in
-        subst (λ k. k ≤ put F c n q) (sym m)
+        (λ same. let m : mark w q ≡ put (mark v) c (suc n) q = ap (λ (f : ℕ → ℕ). f q) same in
+        subst (λ k. k ≤ suc (put F c n q)) (sym m)
         (alike q c
-        (λ h. let a = cond_here q c n (mark v q) h in let b = cond_here q c n (F q) h in omega arith)
-        (λ h. let a = cond_else q c n (mark v q) h in let b = cond_else q c n (F q) h in let l = r.lower id v e q in omega arith)))
+        (λ h. let a = cond_here q c (suc n) (mark v q) h in let b = cond_here q c n (F q) h in omega arith)
+        (λ h. let a = cond_else q c (suc n) (mark v q) h in let b = cond_else q c n (F q) h in let l = r.lower id v e q in omega arith)))
         (λ same. let m : mark w q ≡ mark v q = ap (λ (f : ℕ → ℕ). f q) same in let l = r.lower id v e q in let up = rise q in omega arith)
-        (marks_of (is_marked v.shape c) v.marks c n)
+        (marks_of (is_marked v.shape c) v.marks c (suc n))
 
     pub wrote : Kept g key (board g key ws s.homes (set s.views id w))
     wrote = let seats = seats_same (g.shape key) s.views id v w e (record { root = refl; number = refl; made = refl; back = refl; shape = refl }) (seats_of g key s r) in record {
@@ -182,8 +182,8 @@ module _ {T K : Type 0} (g : Ghosts T K) (key : K) where
       empty = each s.views id w (λ u. (q : ℕ) → held u q ≡ 2 → get_elem? s.homes q ≡ some (some Empty)) r.empty (r.empty id v e);
       noted = subst (λ (f : ℕ → ℕ). Each (set s.views id w) (λ u. (q : ℕ) → IsNoted u q (f q))) words_at
           (each_else s.views id w (λ u. (q : ℕ) → IsNoted u q (put F c n q)) noted_else noted_here);
-      lower = subst (λ (f : ℕ → ℕ). Each (set s.views id w) (λ u. (q : ℕ) → mark u q ≤ f q)) words_at
-          (each s.views id w (λ u. (q : ℕ) → mark u q ≤ put F c n q) (λ j u at q. let l = r.lower j u at q in let up = rise q in omega arith) lower_here);
+      lower = subst (λ (f : ℕ → ℕ). Each (set s.views id w) (λ u. (q : ℕ) → mark u q ≤ suc (f q))) words_at
+          (each s.views id w (λ u. (q : ℕ) → mark u q ≤ suc (put F c n q)) (λ j u at q. let l = r.lower j u at q in let up = rise q in omega arith) lower_here);
       kept = subst (g.keeps key) words_at new_kept;
       numbered = seats.numbered;
       counted = seats.counted;

@@ -28,7 +28,7 @@ lost_tries p place = lost (view_of p) place
 abbrev pub note_of : Pass → ℕ → ℕ
 note_of p word = note (view_of p) word
 
--- a number that the count word has reached, or 0 where the pass has no mark of it
+-- one more than a number that the count word has reached, or 0 where the pass has no mark of it
 abbrev pub mark_of : Pass → ℕ → ℕ
 mark_of p word = mark (view_of p) word
 

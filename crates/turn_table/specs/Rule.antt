@@ -76,8 +76,8 @@ module _ {T K : Type 0} (g : Ghosts T K) (key : K) where
     pub empty : Each s.views (λ v. (p : ℕ) → held v p ≡ 2 → get_elem? s.homes p ≡ some (some Empty))
     -- a pass has notes only of count words that speak of a place that it holds, and each note is the word's number
     pub noted : Each s.views (λ v. (c : ℕ) → 0 < note v c → (c < words_in (g.shape key)) × (is_spoken_for (g.shape key) (held v) c ≡ true) × (note v c ≡ suc (count_word (g.shape key) s.words c)))
-    -- each mark is at most the word's number
-    pub lower : Each s.views (λ v. (c : ℕ) → mark v c ≤ count_word (g.shape key) s.words c)
+    -- the word's number has reached each mark
+    pub lower : Each s.views (λ v. (c : ℕ) → mark v c ≤ suc (count_word (g.shape key) s.words c))
     -- the count words keep among themselves what the values' type says
     pub kept : g.keeps key (count_word (g.shape key) s.words)
     -- no pass has a number above the root's count, and there is one root

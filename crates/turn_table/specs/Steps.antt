@@ -13,9 +13,9 @@ use Rattle.turn_table.specs.Views.{note, mark, holding, taking, losing, giving, 
 abbrev pub Fits : View → (ℕ → ℕ) → Type 0
 Fits v f = (c : ℕ) → 0 < note v c → note v c ≡ suc (f c)
 
--- each mark is at most the number of the word in these counts
+-- the number of the word in these counts has reached each mark
 abbrev pub Above : View → (ℕ → ℕ) → Type 0
-Above v f = (c : ℕ) → mark v c ≤ f c
+Above v f = (c : ℕ) → mark v c ≤ suc (f c)
 
 module _ {T K : Type 0} (g : Ghosts T K) (key : K) where
   -- there are counts that fit the notes and the marks of the view, and to which this value is true at this place
@@ -76,7 +76,7 @@ module _ {T : Type 0} where
 
   -- a count word was read, whose number fits the mark and the note of it
   abbrev pub read : Step (Cell T) → Me (Cell T) View → ℕ → Me (Cell T) View → Type 0
-  read st m r n = OfCount st (λ c. (n ≡ (reading m.0 c r, m.1)) × (mark m.0 c ≤ r) × (0 < note m.0 c → note m.0 c ≡ suc r))
+  read st m r n = OfCount st (λ c. (n ≡ (reading m.0 c r, m.1)) × (mark m.0 c ≤ suc r) × (0 < note m.0 c → note m.0 c ≡ suc r))
 
   -- a count word was written
   abbrev pub written : Step (Cell T) → Me (Cell T) View → ℕ → Me (Cell T) View → Type 0

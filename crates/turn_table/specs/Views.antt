@@ -17,7 +17,7 @@ lost v p = at v.lost p
 abbrev pub note : View → ℕ → ℕ
 note v c = at v.notes c
 
--- a number that the count word has reached, or 0 where there is no mark of it
+-- one more than a number that the count word has reached, or 0 where there is no mark of it
 abbrev pub mark : View → ℕ → ℕ
 mark v c = at v.marks c
 
@@ -50,11 +50,11 @@ giving v p = record v { held = (p, 0) ∷ v.held; notes = forget (λ c. not (is_
 
 -- the number of the count word c was written: it is noted, and marked where the word is one that is marked
 abbrev pub writing : View → ℕ → ℕ → View
-writing v c n = record v { notes = (c, suc n) ∷ v.notes; marks = cond (is_marked v.shape c) ((c, n) ∷ v.marks) v.marks }
+writing v c n = record v { notes = (c, suc n) ∷ v.notes; marks = cond (is_marked v.shape c) ((c, suc n) ∷ v.marks) v.marks }
 
 -- the number of the count word c was read: it is noted where the word speaks of a held place, and marked where the word is one that is marked
 abbrev pub reading : View → ℕ → ℕ → View
-reading v c n = record v { notes = cond (is_spoken_for v.shape (at v.held) c) ((c, suc n) ∷ v.notes) v.notes; marks = cond (is_marked v.shape c) ((c, n) ∷ v.marks) v.marks }
+reading v c n = record v { notes = cond (is_spoken_for v.shape (at v.held) c) ((c, suc n) ∷ v.notes) v.notes; marks = cond (is_marked v.shape c) ((c, suc n) ∷ v.marks) v.marks }
 
 -- the stop word was read
 abbrev pub looking : View → ℕ → View

@@ -4,9 +4,10 @@ use crate::view::Shape;
 
 /// A type of values that may lie in a table of turns. It has no calls. Its members say what the shared rule says of such values.
 ///
-/// Counts and marks are functions from count words to numbers.
+/// Counts and marks are functions from count words to numbers. The mark of a word is one more than a
+/// number that the word has reached, and 0 where there is none.
 pub trait Tenant {
-    ghost use Rattle.std.specs.Prelude.{◌≡◌, ℕ, ◌≤◌, ◌⊎◌, true};
+    ghost use Rattle.std.specs.Prelude.{◌≡◌, ℕ, suc, ◌≤◌, ◌⊎◌, true};
     ghost use Rattle.turn_table.specs.Changes.{put};
     ghost use Rattle.turn_table.specs.Shapes.{Speaks, is_cleared};
     ghost use Rattle.turn_table.specs.declared.view.Shape.{Shape};
@@ -39,5 +40,5 @@ pub trait Tenant {
     ghost cleared: { (k : Self.Key) (m : ℕ → ℕ) (p : ℕ) (x : Self) → ((c : ℕ) → is_cleared (shape k) p c ≡ true → m c ≡ 0) → marked k m p x };
 
     // A count that was just read may be marked.
-    ghost marks: { (k : Self.Key) (f m : ℕ → ℕ) (p : ℕ) (x : Self) (c : ℕ) → keeps k f → owes k f p x → marked k m p x → marked k (put m c (f c)) p x };
+    ghost marks: { (k : Self.Key) (f m : ℕ → ℕ) (p : ℕ) (x : Self) (c : ℕ) → keeps k f → owes k f p x → marked k m p x → marked k (put m c (suc (f c))) p x };
 }

@@ -170,7 +170,7 @@ impl<V: Tenant> Turns<V> {
         requires word { word < words_of V.Tenant self.now }
         ensures pass { IsPassOf V.Tenant self.now pass.new }
         ensures view { view_of pass.new ≡ reading (view_of pass.old) word result }
-        ensures mark { mark_of pass.old word ≤ result }
+        ensures mark { mark_of pass.old word ≤ suc result }
         ensures note { 0 < note_of pass.old word → note_of pass.old word ≡ suc result }
     {
         let index = self.board.places as usize + 1 + word as usize;

@@ -32,7 +32,7 @@ pub struct View {
     pub lost: LinkedList<(u64, u64)>,
     /// For each count word that was noted, one more than its number.
     pub notes: LinkedList<(u64, u64)>,
-    /// For each count word that was marked, a number that it has reached.
+    /// For each count word that was marked, one more than a number that it has reached.
     pub marks: LinkedList<(u64, u64)>,
     /// How often the stop word was read.
     pub stop_loads: u64,

@@ -46,7 +46,7 @@ returns-clause-view g c =
     (told.0 ∙ ap (after c.args.word c.load-found.result) c.sit-seat.ensures.me)
 
 abbrev AtMost : {S : Type 0} → ℕ → ℕ → Me S View → Type 0
-AtMost c n m = mark m.0 c ≤ n
+AtMost c n m = mark m.0 c ≤ suc n
 
 abbrev IsNoted : {S : Type 0} → ℕ → ℕ → Me S View → Type 0
 IsNoted c n m = 0 < note m.0 c → note m.0 c ≡ suc n
