@@ -1,5 +1,6 @@
 //! The miniature crossing: a barrier that goes on only as far as it has marked the worker's done word.
-ghost use Rattle.turn_table.specs.Passes.{HoldsNone};
+ghost use Rattle.std.specs.Prelude.{◌≡◌, ◌≤◌, suc, IfSome};
+ghost use Rattle.turn_table.specs.Passes.{HoldsNone, mark_of};
 ghost use Rattle.turn_table.specs.Turned.{IsPassOf};
 
 use turn_table::{Pass, Tenant, Turns};
@@ -37,44 +38,47 @@ impl Tenant for Part {
 }
 
 /// The worker does one thing more, where its turn was won, and its done word says so.
-pub fn work(turns: &Turns<Part>, pass: &mut Pass) -> bool
+///
+/// Gives the number that it wrote there, which the pass then has as its mark of the done word.
+pub fn work(turns: &Turns<Part>, pass: &mut Pass) -> Option<u64>
     requires pass { IsPassOf ⟦<Part as Tenant>⟧ turns.now pass.old }
     requires free { HoldsNone pass.old }
     ensures pass { IsPassOf ⟦<Part as Tenant>⟧ turns.now pass.new }
     ensures free { HoldsNone pass.new }
+    ensures rises { IfSome result (λ n. mark_of pass.old 0 ≤ n) }
+    ensures done { IfSome result (λ n. mark_of pass.new 0 ≡ suc n) }
 {
-    let Some(turn) = turns.try_take(pass, 0) else {
-        return false;
-    };
+    let turn = turns.try_take(pass, 0)?;
     let n = turns.load(pass, 0);
     if n == u64::MAX {
         turns.leave(pass, turn);
-        return false;
+        return None;
     }
     let mut worker = turns.bring(pass, turn);
     worker.value().number += 1;
     turns.write(pass, 0, n + 1);
     turns.give(pass, worker);
-    true
+    Some(n + 1)
 }
 
 /// The barrier's round becomes what the worker has done, where the barrier's turn was won.
 ///
-/// The done word is marked while the barrier is still at home.
-pub fn cross(turns: &Turns<Part>, pass: &mut Pass) -> bool
+/// The done word is marked while the barrier is still at home. Gives the round, which the pass then has as
+/// its mark of the done word and of the round word.
+pub fn cross(turns: &Turns<Part>, pass: &mut Pass) -> Option<u64>
     requires pass { IsPassOf ⟦<Part as Tenant>⟧ turns.now pass.old }
     requires free { HoldsNone pass.old }
     ensures pass { IsPassOf ⟦<Part as Tenant>⟧ turns.now pass.new }
     ensures free { HoldsNone pass.new }
+    ensures done { IfSome result (λ n. mark_of pass.new 0 ≡ suc n) }
+    ensures round { IfSome result (λ n. mark_of pass.new 1 ≡ suc n) }
 {
-    let Some(turn) = turns.try_take(pass, 1) else {
-        return false;
-    };
+    let turn = turns.try_take(pass, 1)?;
     let _round = turns.load(pass, 1);
     let done = turns.load(pass, 0);
     let mut barrier = turns.bring(pass, turn);
     barrier.value().number = done;
     turns.write(pass, 1, done);
     turns.give(pass, barrier);
-    true
+    Some(done)
 }

@@ -1,5 +1,6 @@
 //! The miniature post: what a sender has posted and what its mail has got agree whenever both are at home.
-ghost use Rattle.turn_table.specs.Passes.{HoldsNone};
+ghost use Rattle.std.specs.Prelude.{◌≡◌, ℕ, IsTrue};
+ghost use Rattle.turn_table.specs.Passes.{HoldsNone, lost_tries};
 ghost use Rattle.turn_table.specs.Turned.{IsPassOf};
 
 use turn_table::{Pass, Tenant, Turns};
@@ -40,11 +41,14 @@ impl Tenant for Counted {
 }
 
 /// Posts one, where both turns were won: the sender and the mail count it, and so does the posted word.
+///
+/// True comes only where no try was lost.
 pub fn post(turns: &Turns<Counted>, pass: &mut Pass) -> bool
     requires pass { IsPassOf ⟦<Counted as Tenant>⟧ turns.now pass.old }
     requires free { HoldsNone pass.old }
     ensures pass { IsPassOf ⟦<Counted as Tenant>⟧ turns.now pass.new }
     ensures free { HoldsNone pass.new }
+    ensures won { IsTrue result → (place : ℕ) → lost_tries pass.new place ≡ lost_tries pass.old place }
 {
     let Some(first) = turns.try_take(pass, 0) else {
         return false;
