@@ -8,6 +8,8 @@
 #[cfg(test)]
 mod ball;
 pub mod crossing;
+#[cfg(test)]
+mod office;
 pub mod post;
 #[cfg(test)]
 mod tests;

@@ -1,14 +1,16 @@
-//! Tests of tables of turns: a value has one holder, none is lost, and a stop is seen.
+//! Tests of tables of turns: a value has one holder, none is lost, a stop is seen, and posts reach both ends.
 ghost use Rattle.std.specs.Prelude.{◌<◌};
 ghost use Rattle.turn_table.specs.Passes.{HoldsNone};
 ghost use Rattle.turn_table.specs.Turned.{IsPassOf};
 
 use crate::ball::{Ball, Court, close, hit, open};
+use crate::office::{self, Office};
+use crate::post::{Counted, post};
 use std::sync::Wait;
 use std::thread::{Threads, join};
 use turn_table::{Pass, Tenant, Turns};
 
-// The balls in the order of their places, each with its hits.
+// The ball of this place: its name and its hits.
 fn told(balls: &[Ball], at: usize) -> Option<(u32, u32)> {
     let ball = balls.get(at)?;
     Some((ball.name, ball.hits))
@@ -146,4 +148,27 @@ fn two_threads_pass_four_balls_and_lose_none(rt: HostRuntime) {
     assert_eq!(rt; told(balls.as_slice(), 1), Some((1, 2000)));
     assert_eq!(rt; told(balls.as_slice(), 2), Some((2, 2000)));
     assert_eq!(rt; told(balls.as_slice(), 3), Some((3, 2000)));
+}
+
+fn posted(counted: &[Counted], at: usize) -> Option<u64> {
+    Some(counted.get(at)?.posted)
+}
+
+#[test]
+fn after_three_posts_sender_and_mail_agree(rt: HostRuntime) {
+    let Some(office) = office::open(rt.alloc()) else {
+        panic!(rt; "there is memory");
+    };
+    let Office {
+        turns,
+        mut pass,
+        room,
+    } = office;
+    assert!(rt; post(&turns, &mut pass));
+    assert!(rt; post(&turns, &mut pass));
+    assert!(rt; post(&turns, &mut pass));
+    let counted = office::close(Office { turns, pass, room });
+    assert_eq!(rt; counted.len(), 2);
+    assert_eq!(rt; posted(counted.as_slice(), 0), Some(3));
+    assert_eq!(rt; posted(counted.as_slice(), 1), Some(3));
 }
