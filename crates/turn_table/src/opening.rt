@@ -1,5 +1,5 @@
 //! How a table of turns is made, with its passes.
-ghost use Rattle.std.specs.Prelude.{◌≡◌, ℕ, ◌+◌, ◌^◌, ◌<◌, ◌≤◌, ◌++◌, ◌∷◌, [], true, IfOk, IfErr, All, length, vec_len, vec_capacity, slice_index, replicate};
+ghost use Rattle.std.specs.Prelude.{◌≡◌, ◌+◌, ◌^◌, ◌<◌, ◌≤◌, ◌++◌, [], IfOk, IfErr, All, vec_len, vec_capacity, slice_index, replicate};
 ghost use Rattle.turn_table.specs.Passes.{IsSeated, IsNew};
 ghost use Rattle.turn_table.specs.Shapes.{places_in, words_in};
 ghost use Rattle.turn_table.specs.Views.{rooted};

@@ -1,6 +1,5 @@
 //! What a worker has of a table of turns.
-ghost use Rattle.std.specs.Prelude.{◌≡◌, ◌<◌, ◌∷◌, []};
-ghost use Rattle.turn_table.specs.declared.view.View.{View};
+ghost use Rattle.std.specs.Prelude.{◌≡◌, ◌∷◌, []};
 
 use crate::view::View;
 use atomic_table::{Badge, Seat};

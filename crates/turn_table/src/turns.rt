@@ -1,5 +1,5 @@
 //! The table of values of which each has one holder at a time.
-ghost use Rattle.std.specs.Prelude.{◌≡◌, ◌≢◌, ℕ, ◌+◌, ◌<◌, ◌≤◌, ◌∷◌, [], true, ◌↔◌, IsTrue, IfOk, IfErr, Some, MatchOption, All, length, vec_len, suc, slice_index};
+ghost use Rattle.std.specs.Prelude.{◌≡◌, ◌≢◌, ◌+◌, ◌<◌, ◌≤◌, [], true, ◌↔◌, IsTrue, Some, MatchOption, length, suc};
 ghost use Rattle.atomic_table.specs.Seated.{table_id_coded};
 ghost use base.Stored.{Coded-set};
 ghost use Rattle.turn_table.specs.Passes.{only, is_root_of};
@@ -36,8 +36,8 @@ impl<V: Tenant> Turns<V> {
     ghost use Rattle.turn_table.specs.Passes.{view_of, holds_at, mark_of, note_of};
     ghost use Rattle.turn_table.specs.Shapes.{spoken};
     ghost use Rattle.turn_table.specs.Turned.{table_of, key_of, count_of, places_of, words_of, IsPassOf};
-    ghost use Rattle.turn_table.specs.Steps.{Fits, Above, Tells, Pays, KeepsWith};
-    ghost use Rattle.turn_table.specs.Views.{held, mark, moving_out, moving_home, taking, losing, giving, reading, writing, looking};
+    ghost use Rattle.turn_table.specs.Steps.{Tells, Pays, KeepsWith};
+    ghost use Rattle.turn_table.specs.Views.{held, moving_out, moving_home, taking, losing, giving, reading, writing, looking};
 
     /// How many places there are.
     pub fn places(&self) -> u32
@@ -112,9 +112,7 @@ impl<V: Tenant> Turns<V> {
         requires pass { IsPassOf V.Tenant self.now pass.old }
         requires place { held.place < places_of V.Tenant self.now }
         requires held { holds_at pass.old held.place ≡ 2 }
-        requires sound { V.sound (key_of self.now) held.place held.value }
-        requires marked { V.marked (key_of self.now) (mark (view_of pass.old)) held.place held.value }
-        requires owed { (f : ℕ → ℕ) → V.keeps (key_of self.now) f → Fits (view_of pass.old) f → Above (view_of pass.old) f → V.owes (key_of self.now) f held.place held.value }
+        requires pays { Pays V.Tenant (key_of self.now) (view_of pass.old) held.place held.value }
         ensures pass { IsPassOf V.Tenant self.now pass.new }
         ensures view { view_of pass.new ≡ moving_home (view_of pass.old) held.place }
         ensures place { result.place ≡ held.place }
@@ -152,9 +150,7 @@ impl<V: Tenant> Turns<V> {
         requires pass { IsPassOf V.Tenant self.now pass.old }
         requires place { held.place < places_of V.Tenant self.now }
         requires held { holds_at pass.old held.place ≡ 2 }
-        requires sound { V.sound (key_of self.now) held.place held.value }
-        requires marked { V.marked (key_of self.now) (mark (view_of pass.old)) held.place held.value }
-        requires owed { (f : ℕ → ℕ) → V.keeps (key_of self.now) f → Fits (view_of pass.old) f → Above (view_of pass.old) f → V.owes (key_of self.now) f held.place held.value }
+        requires pays { Pays V.Tenant (key_of self.now) (view_of pass.old) held.place held.value }
         ensures pass { IsPassOf V.Tenant self.now pass.new }
         ensures view { view_of pass.new ≡ giving (moving_home (view_of pass.old) held.place) held.place }
     {

@@ -45,7 +45,7 @@ load-requires-2 g c =
       turn_within z shape c.args.pass.now place own c.requires.place,
       from (Kept g.V.Tenant key) z.slots c.exchange-old.new.seat.id (place + 1) (λ n. n) (λ me n. settled (step z.slots (place + 1) 0 0 none) me n) c.exchange-old.new.seat.me (holding v place 3, (place, Value c.args.held.value) ∷ []) me
           (settles g.V.Tenant key z.slots c.exchange-old.new.seat.id (holding v place 3) [] place c.requires.place own.shaped
-          c.args.held.value (at_here v.held place 3) (record { sound = c.requires.sound; marked = c.requires.marked; owed = c.requires.owed })),
+          c.args.held.value (at_here v.held place 3) (record { sound = c.requires.pays.sound; marked = c.requires.pays.marked; owed = c.requires.pays.owed })),
     )
 
 abbrev settling : {T : Type 0} → ℕ → Me (Cell T) View → Me (Cell T) View
