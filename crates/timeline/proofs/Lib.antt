@@ -1,0 +1,11 @@
+pub mod TellsBounds
+pub mod Lined
+pub mod Channels
+pub mod Sends
+pub mod Steps
+pub mod Free
+pub mod Executed
+pub mod Moved
+pub mod Opened
+pub mod Fresh
+pub mod Range

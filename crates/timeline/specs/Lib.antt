@@ -1,0 +1,7 @@
+pub mod View
+pub mod Holding
+pub mod Opening
+pub mod Moving
+pub mod Executing
+pub mod Lines
+pub mod Sound
