@@ -7,7 +7,7 @@ use Rattle.event_order.specs.Order.{IsBefore}
 use Rattle.event_order.specs.Pending.{Among, IsApart, put_all}
 use Rattle.event_order.specs.Machine.{due}
 use Rattle.event_order.specs.Run.{share, acted}
-use Rattle.event_order.proofs.Pending.{test_cases, among_filter, filter_among}
+use Rattle.event_order.proofs.Pending.{among_append_right, test_cases, among_filter, filter_among}
 use Rattle.event_order.proofs.Steps.{le_true}
 use Rattle.event_order.proofs.Local.{share_same}
 use Rattle.ssf_model.specs.declared.wait.Kind.{Kind}
@@ -26,6 +26,7 @@ use Rattle.ssf_model.specs.Run.{States, IsOnChannel, IsEndFor, HasAt, acts_at, w
 use Rattle.ssf_model.specs.Scene.{Net, Scene, scene_of, world_at, event_at, time_of, channel_of}
 use Rattle.ssf_model.specs.Truth.{is_on_line, line_events, line_entries, IsNext}
 use Rattle.ssf_model.proofs.Lists.{different, each_all, each_of, get_set_own, get_set_other, within_of, count_yes, count_no}
+use Rattle.ssf_model.proofs.Histories.{among_told}
 use Rattle.ssf_model.proofs.Owning.{each_from_among}
 use Rattle.ssf_model.proofs.Counts.{counted_is, numbered_is, writes_rounded}
 use Rattle.run_laws.proofs.ByPlace.{count_after as channel_count}
@@ -146,6 +147,31 @@ module _ {B S P : Type 0} (r : Reaction S P) (valid : Validity S) (carried : P �
     unfolding machine_of
     is_over_here over = (let q = over_is t over in let end = sound.until in
         record { head = q.0.event; rest = q.0.rest; is = q.0.is; in_time = omega (arith, q.0.in_time, end); below = omega (arith, q.0.below, bound_same); spent = q.1 })
+
+    -- an entry of the history is that of an event that was executed
+    pub record IsOfEvent (x : Entry) : Type 0 where
+      pub number : ℕ
+      pub event : Event P
+      pub below : number < m
+      pub is : event_at s number ≡ Some event
+      pub own_event : is_on_line s i event ≡ true
+      pub key_is : x.key ≡ event.key
+
+    entry_key : (d : Event P) (o : Option (Entity B S P)) → (entry_by r d o).key ≡ d.key
+    entry_key d None = refl
+    entry_key d (Some k) = refl
+
+    pub of_history : (x : Entry) → Among x t.history → IsOfEvent x
+    of_history x a =
+        let told = among_told s (is_on_line s i) m x (subst (λ es. Among x es) sound.history (among_append_right x sound.given_up t.history a)) in
+        record {
+          number = told.number;
+          event = told.event;
+          below = told.below;
+          is = told.is;
+          own_event = told.passes;
+          key_is = ap (λ (y : Entry). y.key) told.told ∙ entry_key told.event (slice_get (world_at s told.number).state.entities told.event.entity);
+        }
 
     module _ (e : Event P) (rest : List (Event P)) (first : t.pending ≡ e ∷ rest) (none : refusal t ≡ None) where
       free : IsFree t e rest
@@ -403,6 +429,9 @@ module _ {B S P : Type 0} (r : Reaction S P) (valid : Validity S) (carried : P �
       pub comes_last : (j : ℕ) (d : Event P) → j < m → event_at s j ≡ Some d → IsBefore d.key e.key
       unfolding machine_of
       comes_last j d less is = rises s shares.shared j n d e (omega (arith, less, from_moment)) is next.is
+
+      pub history_before : (y : Entry) → Among y t.history → IsBefore y.key e.key
+      history_before y a = (let q = of_history y a in subst (λ k. IsBefore k e.key) (sym q.key_is) (comes_last q.number q.event q.below q.is))
 
       pub low_after : (sp : ℕ) → low_in t ≤ low_in (run_made r t e rest entity sp)
       low_after sp =

@@ -6,6 +6,7 @@ ghost use Rattle.std.specs.Prelude.{◌≡◌, ℕ, ◌+◌, ◌<◌, ◌≤◌,
 ghost use Rattle.event_order.specs.Order.{IsBefore};
 ghost use Rattle.event_order.specs.Pending.{Among};
 ghost use Rattle.ssf_model.specs.declared.event.Event.{Event};
+ghost use Rattle.ssf_model.specs.declared.event.Entry.{Entry};
 ghost use Rattle.ssf_model.specs.declared.event.Parcel.{Parcel};
 ghost use Rattle.ssf_model.specs.Runs.{OfEachFittingRun};
 ghost use Rattle.ssf_model.specs.Scene.{world_at, event_at};
@@ -39,8 +40,8 @@ pub fn timelines_tell_their_bounds<B: Behaviour>()
 
 /// Taking in a true parcel, which begins where the timeline has taken up to, is the step that takes
 /// its mail (`line`) and keeps the timeline sound (`sound`). No event of it comes too late: each is at
-/// the bound or later (`late`) and comes after all that the timeline has executed (`after`). The lower
-/// bound does not fall (`low`).
+/// the bound or later (`late`) and comes after all that the timeline has executed (`after`), so after all
+/// of its history (`history`). The lower bound does not fall (`low`).
 pub fn taking_is_the_step<B: Behaviour>()
     ensures line { (b : B) → OfEachSoundTimeline {B = B} (B.valid b) (B.carried b) (B.reaction b) (λ plan line s i m t.
         (c : ℕ) (parcel : Parcel B.Payload) (after : TimelineOf B B.State B.Payload) → IsTakenTruly s t c parcel after
@@ -54,6 +55,9 @@ pub fn taking_is_the_step<B: Behaviour>()
     ensures after { (b : B) → OfEachSoundTimeline {B = B} (B.valid b) (B.carried b) (B.reaction b) (λ plan line s i m t.
         (c : ℕ) (parcel : Parcel B.Payload) (after : TimelineOf B B.State B.Payload) → IsTakenTruly s t c parcel after
         → (j : ℕ) (d e : Event B.Payload) → j < m → event_at s j ≡ Some d → is_on_line s i d ≡ true → Among e parcel.events → IsBefore d.key e.key) }
+    ensures history { (b : B) → OfEachSoundTimeline {B = B} (B.valid b) (B.carried b) (B.reaction b) (λ plan line s i m t.
+        (c : ℕ) (parcel : Parcel B.Payload) (after : TimelineOf B B.State B.Payload) → IsTakenTruly s t c parcel after
+        → (x : Entry) (e : Event B.Payload) → Among x t.history → Among e parcel.events → IsBefore x.key e.key) }
     ensures low { (b : B) → OfEachSoundTimeline {B = B} (B.valid b) (B.carried b) (B.reaction b) (λ plan line s i m t.
         (c : ℕ) (parcel : Parcel B.Payload) (after : TimelineOf B B.State B.Payload) → IsTakenTruly s t c parcel after
         → low_in t ≤ low_in after) }
@@ -136,8 +140,8 @@ pub fn timelines_may_as_the_rules_say<B: Behaviour>()
 {}
 
 /// A sound timeline whose next event is not refused executes the next event that the run has on it
-/// (`next`), which comes after all that it has executed (`last`). With event number `n` of the run this
-/// is the step that executes it (`line`): the timeline stays sound (`sound`), its history grows by the
+/// (`next`), which comes after all events of the run before its moment (`last`), so after all of its
+/// history (`rises`). With event number `n` of the run this is the step that executes it (`line`): the timeline stays sound (`sound`), its history grows by the
 /// run's entry of the event (`history`), and its lower bound does not fall (`low`).
 pub fn executing_is_the_step<B: Behaviour>()
     ensures next { (b : B) → OfEachSoundTimeline {B = B} (B.valid b) (B.carried b) (B.reaction b) (λ plan line s i m t.
@@ -145,6 +149,9 @@ pub fn executing_is_the_step<B: Behaviour>()
     ensures last { (b : B) → OfEachSoundTimeline {B = B} (B.valid b) (B.carried b) (B.reaction b) (λ plan line s i m t.
         (after : TimelineOf B B.State B.Payload) → (q : IsExecuted (B.reaction b) t after)
         → (j : ℕ) (d : Event B.Payload) → j < m → event_at s j ≡ Some d → IsBefore d.key q.run.event.key) }
+    ensures rises { (b : B) → OfEachSoundTimeline {B = B} (B.valid b) (B.carried b) (B.reaction b) (λ plan line s i m t.
+        (after : TimelineOf B B.State B.Payload) → (q : IsExecuted (B.reaction b) t after)
+        → (x : Entry) → Among x t.history → IsBefore x.key q.run.event.key) }
     ensures line { (b : B) → OfEachSoundTimeline {B = B} (B.valid b) (B.carried b) (B.reaction b) (λ plan line s i m t.
         (after : TimelineOf B B.State B.Payload) → (q : IsExecuted (B.reaction b) t after)
         → (n : ℕ) → event_at s n ≡ Some q.run.event

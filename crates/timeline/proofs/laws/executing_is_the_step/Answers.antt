@@ -5,7 +5,7 @@ use Rattle.sync_rules.specs.Steps.{executed_line}
 use Rattle.sync_rules.proofs.Runs.{one_number}
 use Rattle.timeline.specs.Lines.{line_of}
 use Rattle.timeline.specs.Sound.{IsSoundTimeline}
-use Rattle.timeline.proofs.Executed.{next, comes_last, step_line, step_sound, step_history, step_low}
+use Rattle.timeline.proofs.Executed.{history_before, next, comes_last, step_line, step_sound, step_history, step_low}
 use Rattle.timeline.proofs.laws.executing_is_the_step.Goals as goal
 
 pub returns-clause-next : goal.returns-clause-next
@@ -43,3 +43,7 @@ returns-clause-history g c = λ b plan until kept line net fits in_time i m t on
 pub returns-clause-low : goal.returns-clause-low
 returns-clause-low g c = λ b plan until kept line net fits in_time i m t on sound after q.
     step_low (g.B.Behaviour.reaction b) (g.B.Behaviour.valid b) (g.B.Behaviour.carried b) (g.met.B.Behaviour.sound b) (g.met.B.Behaviour.modest b) plan until in_time fits kept line net i m t on sound q.run.event q.run.rest q.run.first q.free after q.run.entity q.run.at after.spare q.run.is
+
+pub returns-clause-rises : goal.returns-clause-rises
+returns-clause-rises g c = λ b plan until kept line net fits in_time i m t on sound after q.
+    history_before (g.B.Behaviour.reaction b) (g.B.Behaviour.valid b) (g.B.Behaviour.carried b) (g.met.B.Behaviour.sound b) (g.met.B.Behaviour.modest b) plan until in_time fits kept line net i m t on sound q.run.event q.run.rest q.run.first q.free
