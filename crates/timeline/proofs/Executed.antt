@@ -61,6 +61,7 @@ use Rattle.timeline.specs.Holding.{bound_in, holder_in, is_done, is_free, is_ove
 use Rattle.timeline.specs.Executing.{refusal, sent_in, written_in, MayAct, MayRun, IsRun}
 use Rattle.timeline.specs.Lines.{line_of, IsPlacedIn}
 use Rattle.timeline.specs.Sound.{HasMappings, HasEntities, HasCounts, HasNext, IsSoundTimeline, IsRunOnLines}
+use Rattle.timeline.proofs.Kept.{filled_put}
 use Rattle.timeline.proofs.TellsBounds.{bound_is, low_is, number_among, item_among}
 use Rattle.timeline.proofs.Free.{IsFree, free_of, next_of, free_again, over_is}
 use Rattle.timeline.proofs.Channels.{on, AreSameOn, numbered_same, numbered_apart, numbered_count, count_after, end_after, with_all, same_back}
@@ -392,6 +393,7 @@ module _ {B S P : Type 0} (r : Reaction S P) (valid : Validity S) (carried : P â
         counts = subst AreRising (sym (numbers_all_counted ws t.counts)) sound.order.counts;
         in_ends = sound.order.in_ends;
         out_ends = subst AreRising (sym (numbers_all_put ws t.out_ends)) sound.order.out_ends;
+        filled = filled_put ws t.out_ends sound.order.filled;
       }
 
       pub entry_is : s.entry x e â‰¡ entry_by r e (Some entity)

@@ -1,5 +1,11 @@
-pub mod TellsBounds
+pub mod Loops
+pub mod EndReads
+pub mod Refusals
 pub mod Lined
+pub mod Kept
+pub mod Stays
+pub mod Running
+pub mod TellsBounds
 pub mod Channels
 pub mod Sends
 pub mod Steps

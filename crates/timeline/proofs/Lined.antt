@@ -1,13 +1,12 @@
 -- What the calls make of a timeline is what the steps make of its view.
-use Rattle.std.proofs.Common.{◌≡◌, ℕ, zero, suc, ◌+◌, ◌<◌, ◌≤◌, Bool, true, false, cond, nat_eq, nat_le, min, max, List, [], ◌∷◌, ◌++◌, length, refl, sym, ap, ◌∙◌, subst, inl, inr, arith, eqb-true, Option, Some, None, option_map, unwrap_or}
+use Rattle.std.proofs.Common.{◌≡◌, ℕ, ◌+◌, nat_eq, max, List, [], length, refl, sym, ap, ◌∙◌, inl, inr, eqb-true, Option, Some, None, option_map, unwrap_or}
 use mathlib.Core.Path.{fun_ext}
-use Rattle.event_order.specs.Pending.{Among, put_all}
+use Rattle.event_order.specs.Pending.{Among}
 use Rattle.event_order.proofs.Pending.{test_cases}
 use Rattle.ssf_model.specs.declared.event.Event.{Event}
 use Rattle.ssf_model.specs.declared.event.Parcel.{Parcel}
-use Rattle.ssf_model.specs.Scene.{Scene, Net}
-use Rattle.sync_rules.specs.Parts.{Line, put_at}
-use Rattle.sync_rules.specs.Bounds.{IsInto, IsOutOf, bound_of, low_of}
+use Rattle.ssf_model.specs.Scene.{Scene}
+use Rattle.sync_rules.specs.Parts.{put_at}
 use Rattle.sync_rules.specs.Steps.{taken_line, posted_line, entered_line}
 use Rattle.timeline_parts.specs.declared.ends.InEnd.{InEnd}
 use Rattle.timeline_parts.specs.declared.ends.OutEnd.{OutEnd}
@@ -15,7 +14,7 @@ use Rattle.timeline_parts.specs.Tables.{numbers_of, item_at, changed}
 use Rattle.timeline_parts.specs.Sending.{written_of}
 use Rattle.timeline_parts.proofs.Tables.{item_changed, known_item}
 use Rattle.timeline.specs.View.{TimelineOf, key_of}
-use Rattle.timeline.specs.Holding.{taken_of, held_of, low_in}
+use Rattle.timeline.specs.Holding.{taken_of, held_of}
 use Rattle.timeline.specs.Moving.{taken_end, posted_end, IsTaken, IsHandedOut, entered_at}
 use Rattle.timeline.specs.Lines.{line_of, mail_of, posted_of, outbox_of}
 

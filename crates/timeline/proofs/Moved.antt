@@ -37,6 +37,7 @@ use Rattle.timeline.specs.Moving.{taken_end, posted_end, parcel_of, IsPosted, Ma
 use Rattle.timeline.specs.Lines.{line_of, mail_of, posted_of, outbox_of, IsPlacedIn}
 use Rattle.timeline.specs.Sound.{CountsAt, HasMappings, HasEntities, HasNext, IsSoundTimeline}
 use Rattle.timeline.proofs.TellsBounds.{number_among, item_among, bound_is, low_is}
+use Rattle.timeline.proofs.Kept.{filled_posted}
 use Rattle.timeline.proofs.Free.{next_of}
 use Rattle.timeline.proofs.Lined.{taken_as, posted_as, entered_as}
 
@@ -199,7 +200,7 @@ module _ {B S P : Type 0} (plan : Plan B S P) (line : ℕ → ℕ) (s : Scene (S
 
     made_sound : IsSoundTimeline plan line s i m taken_made
     made_sound = record {
-      order = record { until = sound.order.until; budget = sound.order.budget; few = sound.order.few; entities = sound.order.entities; counts = sound.order.counts; in_ends = made_order; out_ends = sound.order.out_ends };
+      order = record { until = sound.order.until; budget = sound.order.budget; few = sound.order.few; entities = sound.order.entities; counts = sound.order.counts; in_ends = made_order; out_ends = sound.order.out_ends; filled = sound.order.filled };
       until = sound.until;
       sound = subst (λ l. IsSoundLine s i l) (sym made_line) (taken_is_sound s sh i (line_of m t) sound.sound c into (mail_of parcel) parcel_as);
       counted = record { executed = sound.counted.executed; few = sound.counted.few };
@@ -249,7 +250,7 @@ module _ {B S P : Type 0} (plan : Plan B S P) (line : ℕ → ℕ) (s : Scene (S
 
     enter_sound : IsSoundTimeline plan line s i m (entered_at window t)
     enter_sound = record {
-      order = record { until = sound.order.until; budget = sound.order.budget; few = sound.order.few; entities = sound.order.entities; counts = sound.order.counts; in_ends = sound.order.in_ends; out_ends = sound.order.out_ends };
+      order = record { until = sound.order.until; budget = sound.order.budget; few = sound.order.few; entities = sound.order.entities; counts = sound.order.counts; in_ends = sound.order.in_ends; out_ends = sound.order.out_ends; filled = sound.order.filled };
       until = sound.until;
       sound = subst (λ l. IsSoundLine s i l) (sym (enters_line window)) line_sound;
       counted = record { executed = sound.counted.executed; few = sound.counted.few };
@@ -356,6 +357,7 @@ module _ {B S P : Type 0} (plan : Plan B S P) (line : ℕ → ℕ) (s : Scene (S
         counts = sound.order.counts;
         in_ends = sound.order.in_ends;
         out_ends = subst AreRising (sym (numbers_changed c posted_end t.out_ends)) sound.order.out_ends;
+        filled = filled_posted c t.out_ends sound.order.filled;
       };
       until = sound.until;
       sound = subst (λ l. IsSoundLine s i l) (sym (ap (line_of m) (sym after_is) ∙ post_line)) (posted_is_sound s sh i (line_of m t) sound.sound c);
@@ -384,7 +386,7 @@ module _ {B S P : Type 0} (plan : Plan B S P) (line : ℕ → ℕ) (s : Scene (S
 
   pub roomy : (n : ℕ) → IsSoundTimeline plan line s i m (record t { spare = n })
   roomy n = record {
-    order = record { until = sound.order.until; budget = sound.order.budget; few = sound.order.few; entities = sound.order.entities; counts = sound.order.counts; in_ends = sound.order.in_ends; out_ends = sound.order.out_ends };
+    order = record { until = sound.order.until; budget = sound.order.budget; few = sound.order.few; entities = sound.order.entities; counts = sound.order.counts; in_ends = sound.order.in_ends; out_ends = sound.order.out_ends; filled = sound.order.filled };
     until = sound.until;
     sound = sound.sound;
     counted = record { executed = sound.counted.executed; few = sound.counted.few };
@@ -399,7 +401,7 @@ module _ {B S P : Type 0} (plan : Plan B S P) (line : ℕ → ℕ) (s : Scene (S
 
   pub given_up_sound : (below : ℕ) → IsRising (λ (e : Entry). e.key) t.history → IsSoundTimeline plan line s i m (without below t)
   given_up_sound below rising = (let last = last_ones below t.history rising in record {
-    order = record { until = sound.order.until; budget = sound.order.budget; few = sound.order.few; entities = sound.order.entities; counts = sound.order.counts; in_ends = sound.order.in_ends; out_ends = sound.order.out_ends };
+    order = record { until = sound.order.until; budget = sound.order.budget; few = sound.order.few; entities = sound.order.entities; counts = sound.order.counts; in_ends = sound.order.in_ends; out_ends = sound.order.out_ends; filled = sound.order.filled };
     until = sound.until;
     sound = sound.sound;
     counted = record { executed = sound.counted.executed; few = sound.counted.few };

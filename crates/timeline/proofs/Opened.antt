@@ -9,7 +9,7 @@ use Rattle.ssf_model.specs.declared.event.Event.{Event}
 use Rattle.ssf_model.specs.declared.event.Entry.{Entry}
 use Rattle.ssf_model.specs.declared.plan.Mapping.{Mapping}
 use Rattle.ssf_model.specs.declared.plan.Plan.{Plan}
-use Rattle.ssf_model.specs.Reaction.{Reaction, Validity, LatestTime}
+use Rattle.ssf_model.specs.Reaction.{Reaction, Validity, LatestTime, Each}
 use Rattle.ssf_model.specs.Run.{States, Fits}
 use Rattle.ssf_model.specs.Scene.{Net, Scene, scene_of, world_at}
 use Rattle.ssf_model.specs.Truth.{is_on_line}
@@ -28,18 +28,15 @@ use Rattle.timeline_parts.specs.Sending.{written_of}
 use Rattle.timeline.specs.declared.part.Cross.{Cross}
 use Rattle.timeline.specs.declared.part.Part.{Part}
 use Rattle.timeline.specs.View.{TimelineOf, key_of}
-use Rattle.timeline.specs.Holding.{taken_of, held_of, IsInOrder}
+use Rattle.timeline.specs.Holding.{taken_of, held_of, IsInOrder, IsFilled}
 use Rattle.timeline.specs.Opening.{channel_of, first_in, first_out, IsPart, IsFirst}
 use Rattle.timeline.specs.Lines.{line_of, posted_of, outbox_of, IsPlacedIn}
 use Rattle.timeline.specs.Sound.{HasMappings, HasEntities, IsShareOf, IsSoundTimeline}
+use Rattle.timeline.proofs.Kept.{filled_first, numbers_first_in, numbers_first_out}
 use Rattle.timeline.proofs.TellsBounds.{number_among, among_item, item_among}
 use Rattle.timeline.proofs.Executed.{keys}
 
 -- ---- the ends at first
-
-numbers_first : {T : Type 0} (make : Cross → ℕ × T) (xs : List Cross) → ((x : Cross) → (make x).0 ≡ channel_of x) → numbers_of (map make xs) ≡ map channel_of xs
-numbers_first make [] same = refl
-numbers_first make (x ∷ xs) same = ap (λ n. n ∷ numbers_of (map make xs)) (same x) ∙ ap (λ ns. channel_of x ∷ ns) (numbers_first make xs same)
 
 made_among : {T : Type 0} (make : Cross → ℕ × T) (x : Cross) (xs : List Cross) → Among x xs → Among (make x) (map make xs)
 made_among make x [] a = absurd a
@@ -89,10 +86,10 @@ module _ {B S P : Type 0} (r : Reaction S P) (plan : Plan B S P) (until : ℕ) (
       rw (first.executed, pending, first.entered, first.arrival, taken, held, posted, written, outbox) refl
 
   ins_numbers : numbers_of t.in_ends ≡ map channel_of part.ins
-  ins_numbers = ap numbers_of first.in_ends ∙ numbers_first first_in part.ins (λ x. refl)
+  ins_numbers = ap numbers_of first.in_ends ∙ numbers_first_in part.ins
 
   outs_numbers : numbers_of t.out_ends ≡ map channel_of part.outs
-  outs_numbers = ap numbers_of first.out_ends ∙ numbers_first first_out part.outs (λ x. refl)
+  outs_numbers = ap numbers_of first.out_ends ∙ numbers_first_out P part.outs
 
   ins_rise : AreNumbered t.in_ends
   ins_rise = subst AreRising (sym ins_numbers) ordered.ins
@@ -130,6 +127,7 @@ module _ {B S P : Type 0} (r : Reaction S P) (plan : Plan B S P) (until : ℕ) (
       counts = subst (λ es. AreNumbered es) (sym first.counts) ordered.counts;
       in_ends = ins_rise;
       out_ends = outs_rise;
+      filled = subst (λ es. Each IsFilled es) (sym first.out_ends) (filled_first P part.outs);
     };
     until = first.last;
     sound = subst (λ l. IsSoundLine s i l) (sym first_as) (first_line_is_sound s sh i);

@@ -40,7 +40,7 @@ module _ {B S P : Type 0} (r : Reaction S P) (valid : Validity S) (carried : P �
       let sends : Among d (writes_at r plan.mappings (world_at s k).state by (Some at.entity)) = subst (λ o. Among d (writes_at r plan.mappings (world_at s k).state by o)) {x = slice_get (world_at s k).state.entities by.entity} at.at a in
       let from = numbered_is by.key (world_at s k).state.counts (sent_by r plan.mappings by at.entity) d sends in
       let fine = sends_fine r valid carried law modest plan until in_time fits kept k by is at.entity at.at from.sent from.among in
-      let channel : from.sent.channel ≡ d.key.channel = sym (ap (λ (q : Key). q.channel) from.key_is) in
+      let channel : from.sent.channel ≡ d.key.channel = sym {b = from.sent.channel} (ap (λ (q : Key). q.channel) from.key_is) in
       subst (λ c. IsWriterOn plan by.entity c) {x = from.sent.channel} channel fine.0
 
   module _ (i m : ℕ) (t : TimelineOf B S P) (on : IsRunOnLines plan line t.budget s) (sound : IsSoundTimeline plan line s i m t) (c : ℕ) (out : IsOutOf net i c) where

@@ -1,13 +1,11 @@
 -- The execution of the next event: when it is refused, and what it makes of a timeline.
-use Rattle.std.specs.Prelude.{ℕ, ◌≡◌, ◌+◌, ◌-◌, ◌^◌, ◌<◌, ◌≤◌, Bool, true, cond, nat_le, not, List, [], ◌∷◌, ◌++◌, Option, Some, None, is_some}
+use Rattle.std.specs.Prelude.{◌≡◌, ◌+◌, ◌-◌, ◌^◌, ◌<◌, true, cond, nat_le, not, List, [], ◌∷◌, ◌++◌, Option, Some, None}
 use Rattle.std.specs.List.{All, flat_map}
-use Rattle.event_order.specs.Machine.{due}
 use Rattle.event_order.specs.Pending.{put_all}
 use Rattle.ssf_model.specs.declared.event.Event.{Event}
-use Rattle.ssf_model.specs.declared.event.Entry.{Entry}
 use Rattle.ssf_model.specs.declared.process.Process.{Process}
 use Rattle.ssf_model.specs.declared.entity.Entity.{Entity}
-use Rattle.ssf_model.specs.Reaction.{Reaction, Validity, LatestTime}
+use Rattle.ssf_model.specs.Reaction.{Reaction, Validity}
 use Rattle.ssf_model.specs.Deliver.{IsTimely}
 use Rattle.ssf_model.specs.Entities.{IsValidEntity}
 use Rattle.ssf_model.specs.Channels.{Sent, delivered_to, entity_after, numbered}
@@ -69,7 +67,7 @@ module _ {B S P : Type 0} where
       spare = after.spare;
       arrival = least_arriving t.out_ends t.entered (written_in r t event entity) t.arrival;
       executed = t.executed + 1;
-      history = t.history ++ entry_by r event (Some entity) ∷ []
+      history = t.history ++ entry_by r event (Some entity) ∷ [];
     }
 
   -- there was no memory for it: nothing but its entities has changed, and it is spent

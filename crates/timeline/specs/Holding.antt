@@ -1,7 +1,7 @@
 -- How far a timeline may execute, and what holds it there.
-use Rattle.std.specs.Prelude.{ℕ, ◌≡◌, ◌≤◌, ◌+◌, Bool, true, false, cond, nat_eq, nat_le, nat_lt, ◌&&◌, min, not, List, [], ◌∷◌, is_some, slice_index, option_map, unwrap_or}
+use Rattle.std.specs.Prelude.{ℕ, ◌≡◌, ◌≤◌, ◌+◌, Bool, true, false, cond, nat_eq, nat_le, nat_lt, ◌&&◌, min, not, List, [], ◌∷◌, length, is_some, slice_index, option_map, unwrap_or}
 use Rattle.event_order.specs.Machine.{due}
-use Rattle.ssf_model.specs.Reaction.{LatestTime}
+use Rattle.ssf_model.specs.Reaction.{LatestTime, Each}
 use Rattle.ssf_model.specs.declared.event.Event.{Event}
 use Rattle.ssf_model.specs.declared.plan.Mapping.{Mapping}
 use Rattle.run_health.specs.Healthy.{MostEvents}
@@ -11,7 +11,6 @@ use Rattle.timeline_parts.specs.declared.ends.OutEnd.{OutEnd}
 use Rattle.timeline_parts.specs.Tables.{AreNumbered, item_at}
 use Rattle.timeline.specs.declared.answers.Holder.{Holder}
 use Rattle.timeline.specs.declared.answers.Holder.TheVariants.{Channel, Window}
-use Rattle.timeline.specs.declared.part.Cross.{Cross}
 use Rattle.timeline.specs.View.{TimelineOf, key_of, time_in, routes_by}
 
 -- the least of a time and the appointments of appointed channels
@@ -65,7 +64,11 @@ taken_of ends c = unwrap_or (option_map (λ e. e.taken) (item_at c ends)) 0
 abbrev pub held_of : List (ℕ × InEnd) → ℕ → ℕ
 held_of ends c = unwrap_or (option_map (λ e. e.held) (item_at c ends)) 0
 
--- what is in order in every timeline: its times and numbers are in range, and its tables rise
+-- what was posted on a channel and what stands in its outbox is all that was written on it
+abbrev pub IsFilled : {P : Type 0} → ℕ × OutEnd P → Type 0
+IsFilled x = x.1.posted + length x.1.outbox ≡ x.1.written
+
+-- what is in order in every timeline: its times and numbers are in range, its tables rise, and its outboxes have what is not posted
 pub record IsInOrder {B S P : Type 0} (t : TimelineOf B S P) : Type 0 where
   pub until : t.until ≤ LatestTime
   pub budget : t.budget ≤ MostEvents
@@ -74,6 +77,7 @@ pub record IsInOrder {B S P : Type 0} (t : TimelineOf B S P) : Type 0 where
   pub counts : AreNumbered t.counts
   pub in_ends : AreNumbered t.in_ends
   pub out_ends : AreNumbered t.out_ends
+  pub filled : Each IsFilled t.out_ends
 
 -- and each keeps its bound, and the mappings of each out-channel
 pub record IsKept {B S P : Type 0} (t : TimelineOf B S P) (routes : ℕ → List Mapping) (bound : ℕ) (holder : Holder) : Type 0 where

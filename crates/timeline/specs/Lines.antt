@@ -1,5 +1,5 @@
 -- A timeline as the rules of the six steps see it, and how its ends stand in a net.
-use Rattle.std.specs.Prelude.{ℕ, ◌≡◌, ◌+◌, Bool, true, List, [], length, Option, Some, option_map, unwrap_or}
+use Rattle.std.specs.Prelude.{ℕ, ◌≡◌, ◌+◌, List, [], length, Some, option_map, unwrap_or}
 use Rattle.event_order.specs.Pending.{Among}
 use Rattle.ssf_model.specs.declared.event.Event.{Event}
 use Rattle.ssf_model.specs.declared.event.Parcel.{Parcel}

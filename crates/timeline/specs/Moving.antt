@@ -1,8 +1,7 @@
 -- What a timeline takes in and hands out, and how it goes on to a later window.
-use Rattle.std.specs.Prelude.{ℕ, ◌≡◌, ◌+◌, ◌≤◌, ◌<◌, ◌^◌, cond, nat_lt, nat_le, ◌&&◌, min, max, not, Bool, List, [], length, Option, Some, None}
+use Rattle.std.specs.Prelude.{ℕ, ◌≡◌, ◌+◌, ◌≤◌, ◌<◌, ◌^◌, cond, nat_lt, nat_le, ◌&&◌, min, max, Bool, List, [], length, Some}
 use Rattle.std.specs.List.{filter}
 use Rattle.event_order.specs.Pending.{Among, put_all}
-use Rattle.ssf_model.specs.declared.event.Event.{Event}
 use Rattle.ssf_model.specs.declared.event.Entry.{Entry}
 use Rattle.ssf_model.specs.declared.event.Parcel.{Parcel}
 use Rattle.timeline_parts.specs.declared.ends.InEnd.{InEnd}
@@ -44,7 +43,7 @@ module _ {B S P : Type 0} where
     pub is : after ≡ record t {
       in_ends = changed channel (taken_end (parcel.first + length parcel.events) parcel.promise) t.in_ends;
       pending = put_all key_of parcel.events t.pending;
-      spare = after.spare
+      spare = after.spare;
     }
 
   -- the window is a later one, and as much was taken from each channel as the counts say

@@ -1,5 +1,5 @@
 -- What a contract sees of a timeline.
-use Rattle.std.specs.Prelude.{ℕ, ◌≡◌, ◌≤◌, ◌++◌, Bool, List, map}
+use Rattle.std.specs.Prelude.{ℕ, ◌++◌, Bool, List, map}
 use Rattle.event_order.specs.declared.key.Key.{Key}
 use Rattle.ssf_model.specs.declared.event.Event.{Event}
 use Rattle.ssf_model.specs.declared.event.Entry.{Entry}

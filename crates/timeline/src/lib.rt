@@ -3,8 +3,14 @@
 #![tactic(auto)]
 
 mod answers;
+mod bounds;
+mod executing;
 pub mod laws;
+mod moving;
+mod opening;
 mod part;
+mod timeline;
 
 pub use answers::{Holder, Ran};
 pub use part::{Cross, Part};
+pub use timeline::Timeline;
