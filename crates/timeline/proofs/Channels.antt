@@ -1,20 +1,19 @@
 -- Two lists of events that have the same events on each channel, in the same order there.
-use Rattle.std.proofs.Common.{◌≡◌, ℕ, zero, suc, ◌+◌, ◌<◌, ◌≤◌, Bool, true, false, cond, nat_eq, nat_le, ◌&&◌, min, not, List, [], ◌∷◌, ◌++◌, length, map, count_by, append-nil, refl, sym, ap, ◌∙◌, subst, inl, inr, arith, eq-eqb, eqb-true, Option, Some, None, is_some, option_map, unwrap_or}
+use Rattle.std.proofs.Common.{◌≡◌, ℕ, suc, ◌+◌, ◌≤◌, Bool, true, false, cond, nat_eq, min, List, [], ◌∷◌, ◌++◌, length, count_by, append-nil, refl, sym, ap, ◌∙◌, subst, inl, inr, arith, eq-eqb, eqb-true, Option, Some, None, option_map}
 use Rattle.std.specs.List.{filter}
 use Rattle.event_order.specs.declared.key.Key.{Key}
 use Rattle.event_order.specs.Order.{child_of}
 use Rattle.event_order.specs.Pending.{Among, IsApart, IsRising, put_all}
 use Rattle.event_order.proofs.Pending.{test_cases, among_filter, filter_among, put_all_rises, put_all_among, among_put_all_self, among_put_all_other, rising_same}
-use Rattle.event_order.proofs.Steps.{lt_or_ge}
 use Rattle.ssf_model.specs.declared.event.Event.{Event}
 use Rattle.ssf_model.specs.Channels.{Sent, raised, numbered, is_on}
 use Rattle.ssf_model.proofs.Lists.{different, count_yes, count_no}
 use Rattle.ssf_model.proofs.Counts.{raised_same, numbered_is}
 use Rattle.timeline_parts.specs.declared.ends.OutEnd.{OutEnd}
-use Rattle.timeline_parts.specs.Tables.{item_at, changed}
-use Rattle.timeline_parts.specs.Sending.{count_of, count_on, all_counted, with_event, put_one, all_put}
+use Rattle.timeline_parts.specs.Tables.{item_at}
+use Rattle.timeline_parts.specs.Sending.{count_on, all_counted, with_event, put_one, all_put}
 use Rattle.timeline_parts.proofs.Tables.{item_changed}
-use Rattle.timeline.specs.View.{key_of, time_in}
+use Rattle.timeline.specs.View.{key_of}
 
 append_same : {T : Type 0} (xs ys zs : List T) → (xs ++ ys) ++ zs ≡ xs ++ (ys ++ zs)
 append_same [] ys zs = refl

@@ -1,37 +1,30 @@
 -- The execution of the next event of a sound timeline of the run of a plan that fits.
-use Rattle.std.proofs.Common.{◌≡◌, ℕ, zero, suc, ◌+◌, ◌-◌, ◌*◌, ◌^◌, ◌<◌, ◌≤◌, ◌⊎◌, Bool, true, false, cond, nat_eq, nat_le, nat_lt, ◌&&◌, not, List, [], ◌∷◌, ◌++◌, length, map, count_by, refl, sym, ap, ◌∙◌, subst, inl, inr, arith, eq-eqb, eqb-true, Option, Some, None, is_some, option_map, unwrap_or, slice_get, slice_set}
-use Rattle.std.specs.List.{filter, flat_map, All}
-use Rattle.std.proofs.lemmas.Grind.{common_steps}
+use Rattle.std.proofs.Common.{◌≡◌, ℕ, suc, ◌+◌, ◌-◌, ◌*◌, ◌^◌, ◌<◌, ◌≤◌, ◌⊎◌, Bool, true, false, nat_eq, List, [], ◌∷◌, ◌++◌, length, count_by, refl, sym, ap, ◌∙◌, subst, inl, inr, arith, eq-eqb, eqb-true, Option, Some, None, option_map, unwrap_or, slice_get, slice_set}
+use Rattle.std.specs.List.{filter, All}
 use Rattle.event_order.specs.declared.key.Key.{Key}
 use Rattle.event_order.specs.Order.{IsBefore}
-use Rattle.event_order.specs.Pending.{Among, IsApart, put_all}
-use Rattle.event_order.specs.Machine.{due}
+use Rattle.event_order.specs.Pending.{Among, put_all}
 use Rattle.event_order.specs.Run.{share, acted}
 use Rattle.event_order.proofs.Pending.{among_append_right, test_cases, among_filter, filter_among}
-use Rattle.event_order.proofs.Steps.{le_true}
 use Rattle.event_order.proofs.Local.{share_same}
-use Rattle.ssf_model.specs.declared.wait.Kind.{Kind}
-use Rattle.ssf_model.specs.declared.wait.Kind.TheVariants.{Begin, Timer, Message}
 use Rattle.ssf_model.specs.declared.out.Written.TheVariants.{Channel}
 use Rattle.ssf_model.specs.declared.event.Event.{Event}
 use Rattle.ssf_model.specs.declared.event.Entry.{Entry}
 use Rattle.ssf_model.specs.declared.process.Process.{Process}
 use Rattle.ssf_model.specs.declared.entity.Entity.{Entity}
-use Rattle.ssf_model.specs.declared.plan.Mapping.{Mapping}
 use Rattle.ssf_model.specs.declared.plan.Plan.{Plan}
-use Rattle.ssf_model.specs.Reaction.{Reaction, Validity, KeepsValid, LatestTime, LongestDelay, Each}
+use Rattle.ssf_model.specs.Reaction.{Reaction, Validity, KeepsValid, LatestTime, LongestDelay}
 use Rattle.ssf_model.specs.Deliver.{IsModest, IsTimely}
 use Rattle.ssf_model.specs.Channels.{Sent, delivered_to, entity_after, sent_by, counted, numbered, is_on}
-use Rattle.ssf_model.specs.Run.{States, IsOnChannel, IsEndFor, HasAt, acts_at, writes_at, machine_of, opening, world_after, run_event, entry_by, timers_of, Fits}
+use Rattle.ssf_model.specs.Run.{States, acts_at, writes_at, machine_of, opening, entry_by, timers_of, Fits}
 use Rattle.ssf_model.specs.Scene.{Net, Scene, scene_of, world_at, event_at, time_of, channel_of}
 use Rattle.ssf_model.specs.Truth.{is_on_line, line_events, line_entries, IsNext}
 use Rattle.ssf_model.proofs.Lists.{different, each_all, each_of, get_set_own, get_set_other, within_of, count_yes, count_no}
 use Rattle.ssf_model.proofs.Histories.{among_told}
 use Rattle.ssf_model.proofs.Owning.{each_from_among}
-use Rattle.ssf_model.proofs.Counts.{counted_is, numbered_is, writes_rounded}
+use Rattle.ssf_model.proofs.Counts.{counted_is, writes_rounded}
 use Rattle.run_laws.proofs.ByPlace.{count_after as channel_count}
-use Rattle.run_health.specs.Groups.{IsWriterOn, IsSameGroup, is_own}
-use Rattle.run_health.specs.Joined.{IsAligned}
+use Rattle.run_health.specs.Groups.{IsWriterOn, IsSameGroup}
 use Rattle.run_health.specs.Healthy.{MostEvents, spent_by}
 use Rattle.run_health.proofs.Sends.{one_channel_each}
 use Rattle.run_health.proofs.Delivers.{given_timely}
@@ -39,33 +32,31 @@ use Rattle.run_health.proofs.Healths.{leads_from, given}
 use Rattle.run_health.proofs.Along.{IsPlaced, placed, sends_fine, tickets_fit, round_fits, counts_fit}
 use Rattle.run_health.proofs.OfFitting.{own_rounds}
 use Rattle.run_health.proofs.Grouped.{group_is_own}
-use Rattle.sync_rules.specs.Bounds.{IsOutOf, bound_of, low_of}
-use Rattle.sync_rules.specs.Sound.{made, IsSoundLine, IsCounted}
+use Rattle.sync_rules.specs.Bounds.{bound_of, low_of}
+use Rattle.sync_rules.specs.Sound.{IsSoundLine, IsCounted}
 use Rattle.sync_rules.specs.Steps.{CanExecute, IsOver, executed_line}
-use Rattle.sync_rules.proofs.Runs.{one_number, rises, next_state}
+use Rattle.sync_rules.proofs.Runs.{rises, next_state}
 use Rattle.sync_rules.proofs.Writes.{made_up}
 use Rattle.sync_rules.proofs.Bounds.{head_next, line_is}
 use Rattle.sync_rules.proofs.Executes.{executed_is_sound, executed_is_counted}
 use Rattle.sync_rules.proofs.Wholes.{execute_low}
 use Rattle.sync_rules.proofs.States.{entries_next}
 use Rattle.timeline_parts.specs.declared.ends.OutEnd.{OutEnd}
-use Rattle.timeline_parts.specs.Tables.{numbers_of, AreRising, AreNumbered, item_at, changed}
-use Rattle.timeline_parts.specs.Sending.{count_of, written_of, all_counted, all_put, sent_on, IsSendable, MaySend}
-use Rattle.timeline_parts.specs.Settling.{staying, least_arriving, AreNew}
+use Rattle.timeline_parts.specs.Tables.{numbers_of, AreRising, item_at, changed}
+use Rattle.timeline_parts.specs.Sending.{count_of, written_of, all_counted, all_put, IsSendable, MaySend}
+use Rattle.timeline_parts.specs.Settling.{staying, least_arriving}
 use Rattle.timeline_parts.proofs.Tables.{item_changed, numbers_changed}
 use Rattle.timeline_parts.proofs.Sending.{numbers_all_counted, numbers_all_put}
-use Rattle.timeline.specs.declared.answers.Ran.{Ran}
-use Rattle.timeline.specs.declared.answers.Ran.TheVariants.{Held, Idle, Over, Spent}
 use Rattle.timeline.specs.View.{TimelineOf, key_of, routes_by}
-use Rattle.timeline.specs.Holding.{bound_in, holder_in, is_done, is_free, is_over, low_in, IsInOrder}
-use Rattle.timeline.specs.Executing.{refusal, sent_in, written_in, MayAct, MayRun, IsRun}
+use Rattle.timeline.specs.Holding.{bound_in, is_over, low_in, IsInOrder}
+use Rattle.timeline.specs.Executing.{refusal, sent_in, written_in, MayRun}
 use Rattle.timeline.specs.Lines.{line_of, IsPlacedIn}
-use Rattle.timeline.specs.Sound.{HasMappings, HasEntities, HasCounts, HasNext, IsSoundTimeline, IsRunOnLines}
+use Rattle.timeline.specs.Sound.{HasNext, IsSoundTimeline, IsRunOnLines}
 use Rattle.timeline.proofs.Kept.{filled_put}
 use Rattle.timeline.proofs.TellsBounds.{bound_is, low_is, number_among, item_among}
 use Rattle.timeline.proofs.Free.{IsFree, free_of, next_of, free_again, over_is}
 use Rattle.timeline.proofs.Channels.{on, AreSameOn, numbered_same, numbered_apart, numbered_count, count_after, end_after, with_all, same_back}
-use Rattle.timeline.proofs.Sends.{has, routes_same, sends_same}
+use Rattle.timeline.proofs.Sends.{routes_same, sends_same}
 use Rattle.timeline.proofs.Steps.{new_writes, executed_as}
 
 none_or_some : {T : Type 0} (o : Option T) → ((x : T) × (o ≡ Some x)) ⊎ (o ≡ None)

@@ -1,12 +1,10 @@
 -- The events of a true parcel are new to a sound timeline.
-use Rattle.std.proofs.Common.{◌≡◌, ℕ, suc, ◌+◌, ◌<◌, ◌≤◌, true, false, List, [], ◌∷◌, length, refl, sym, ap, ◌∙◌, subst, inl, inr, arith}
+use Rattle.std.proofs.Common.{◌≡◌, ℕ, suc, ◌<◌, ◌≤◌, true, false, List, [], ◌∷◌, refl, sym, ap, ◌∙◌, subst, inl, inr, arith}
 use Rattle.event_order.specs.declared.key.Key.{Key}
 use Rattle.event_order.specs.Pending.{Among, IsApart}
-use Rattle.event_order.specs.Run.{Arises}
 use Rattle.ssf_model.specs.declared.event.Event.{Event}
-use Rattle.ssf_model.specs.declared.event.Parcel.{Parcel}
 use Rattle.ssf_model.specs.Scene.{Scene, channel_of}
-use Rattle.ssf_model.specs.Truth.{is_on_line, IsWrite, IsStretch, IsTrueParcel, IsKeptWrite}
+use Rattle.ssf_model.specs.Truth.{is_on_line, IsWrite, IsStretch, IsKeptWrite}
 use Rattle.sync_rules.specs.Bounds.{IsInto}
 use Rattle.sync_rules.specs.Shared.{IsShared}
 use Rattle.sync_rules.specs.Sound.{IsSoundLine}

@@ -1,5 +1,5 @@
 -- What a sound timeline takes in and hands out, and how it goes on to a later window: it stays sound.
-use Rattle.std.proofs.Common.{◌≡◌, ℕ, zero, suc, ◌+◌, ◌<◌, ◌≤◌, ◌⊎◌, Bool, true, false, cond, nat_eq, nat_le, nat_lt, ◌&&◌, min, not, List, [], ◌∷◌, ◌++◌, length, slice_index, refl, sym, ap, ◌∙◌, subst, inl, inr, arith, Option, Some, None, option_map, unwrap_or}
+use Rattle.std.proofs.Common.{◌≡◌, ℕ, ◌+◌, ◌<◌, ◌≤◌, Bool, true, false, cond, nat_eq, nat_le, nat_lt, ◌&&◌, min, List, [], ◌∷◌, ◌++◌, length, slice_index, refl, sym, ap, ◌∙◌, subst, inl, inr, arith, Option, Some, None, option_map, unwrap_or}
 use Rattle.std.specs.List.{filter}
 use Rattle.std.proofs.lemmas.Grind.{common_steps}
 use Rattle.event_order.specs.declared.key.Key.{Key}
@@ -13,13 +13,13 @@ use Rattle.ssf_model.specs.declared.event.Entry.{Entry}
 use Rattle.ssf_model.specs.declared.event.Parcel.{Parcel}
 use Rattle.ssf_model.specs.declared.plan.Plan.{Plan}
 use Rattle.ssf_model.specs.Run.{States}
-use Rattle.ssf_model.specs.Scene.{Scene, Net, world_at, event_at, time_of}
-use Rattle.ssf_model.specs.Truth.{is_on_line, line_entries, IsTrueParcel, IsCut, IsWindow, IsStretch}
+use Rattle.ssf_model.specs.Scene.{Scene, event_at, time_of}
+use Rattle.ssf_model.specs.Truth.{is_on_line, line_entries, IsTrueParcel, IsCut, IsWindow}
 use Rattle.ssf_model.proofs.Places.{stretch_length}
-use Rattle.sync_rules.specs.Parts.{Line, BarrierOf}
+use Rattle.sync_rules.specs.Parts.{BarrierOf}
 use Rattle.sync_rules.specs.Bounds.{IsInto, IsOutOf, bound_of, low_of, promise_of}
 use Rattle.sync_rules.specs.Shared.{IsShared}
-use Rattle.sync_rules.specs.Sound.{made, HasDone, IsSoundLine, IsCounted, IsSoundBarrier}
+use Rattle.sync_rules.specs.Sound.{made, HasDone, IsSoundLine, IsSoundBarrier}
 use Rattle.sync_rules.specs.Steps.{CanEnter, taken_line, posted_line, entered_line}
 use Rattle.sync_rules.proofs.Posts.{none_late, taken_bound, taken_is_sound, outbox_is_true, posted_is_sound}
 use Rattle.sync_rules.proofs.Enters.{entered_is_sound, enters_soundly}
@@ -33,10 +33,10 @@ use Rattle.timeline_parts.proofs.Tables.{item_changed, numbers_changed}
 use Rattle.timeline.specs.View.{TimelineOf, key_of}
 use Rattle.timeline.specs.Holding.{bound_in, low_in, has_taken, taken_of, IsInOrder}
 use Rattle.timeline.specs.Executing.{refusal, spent_of}
-use Rattle.timeline.specs.Moving.{taken_end, posted_end, parcel_of, IsPosted, MayTake, IsTaken, can_enter, entered_at, IsHandedOut, without}
+use Rattle.timeline.specs.Moving.{taken_end, posted_end, IsTaken, can_enter, entered_at, IsHandedOut, without}
 use Rattle.timeline.specs.Lines.{line_of, mail_of, posted_of, outbox_of, IsPlacedIn}
-use Rattle.timeline.specs.Sound.{CountsAt, HasMappings, HasEntities, HasNext, IsSoundTimeline}
-use Rattle.timeline.proofs.TellsBounds.{number_among, item_among, bound_is, low_is}
+use Rattle.timeline.specs.Sound.{CountsAt, HasNext, IsSoundTimeline}
+use Rattle.timeline.proofs.TellsBounds.{item_among, bound_is, low_is}
 use Rattle.timeline.proofs.Kept.{filled_posted}
 use Rattle.timeline.proofs.Free.{next_of}
 use Rattle.timeline.proofs.Lined.{taken_as, posted_as, entered_as}

@@ -1,21 +1,16 @@
 -- A timeline that has its share of a plan and has executed nothing is sound.
-use Rattle.std.proofs.Common.{◌≡◌, ℕ, zero, suc, ◌+◌, ◌<◌, ◌≤◌, Bool, true, false, cond, nat_eq, List, [], ◌∷◌, ◌++◌, length, map, refl, sym, ap, ◌∙◌, subst, inl, inr, arith, eq-eqb, eqb-true, Option, Some, None, option_map, unwrap_or}
+use Rattle.std.proofs.Common.{◌≡◌, ℕ, ◌≤◌, Bool, true, false, nat_eq, List, [], ◌∷◌, map, refl, sym, ap, ◌∙◌, subst, inl, inr, arith, eq-eqb, eqb-true, Some, option_map, unwrap_or}
 use mathlib.Core.Path.{fun_ext}
 use Rattle.std.specs.List.{filter}
 use Rattle.event_order.specs.declared.key.Key.{Key}
-use Rattle.event_order.specs.Pending.{Among, IsApart, IsRising, put_all}
+use Rattle.event_order.specs.Pending.{Among, put_all}
 use Rattle.event_order.proofs.Pending.{test_cases, among_filter, filter_among, put_all_rises, put_all_among, among_put_all_self, rising_filter, rising_same}
 use Rattle.ssf_model.specs.declared.event.Event.{Event}
-use Rattle.ssf_model.specs.declared.event.Entry.{Entry}
-use Rattle.ssf_model.specs.declared.plan.Mapping.{Mapping}
 use Rattle.ssf_model.specs.declared.plan.Plan.{Plan}
 use Rattle.ssf_model.specs.Reaction.{Reaction, Validity, LatestTime, Each}
 use Rattle.ssf_model.specs.Run.{States, Fits}
-use Rattle.ssf_model.specs.Scene.{Net, Scene, scene_of, world_at}
-use Rattle.ssf_model.specs.Truth.{is_on_line}
-use Rattle.ssf_model.proofs.Lists.{mapped_among}
+use Rattle.ssf_model.specs.Scene.{Net, Scene, scene_of}
 use Rattle.run_health.specs.Healthy.{MostEvents}
-use Rattle.sync_rules.specs.Parts.{Line}
 use Rattle.sync_rules.specs.Bounds.{IsInto, IsOutOf}
 use Rattle.sync_rules.specs.Shared.{IsShared}
 use Rattle.sync_rules.specs.Sound.{IsSoundLine, IsCounted}
@@ -28,13 +23,12 @@ use Rattle.timeline_parts.specs.Sending.{written_of}
 use Rattle.timeline.specs.declared.part.Cross.{Cross}
 use Rattle.timeline.specs.declared.part.Part.{Part}
 use Rattle.timeline.specs.View.{TimelineOf, key_of}
-use Rattle.timeline.specs.Holding.{taken_of, held_of, IsInOrder, IsFilled}
+use Rattle.timeline.specs.Holding.{taken_of, held_of, IsFilled}
 use Rattle.timeline.specs.Opening.{channel_of, first_in, first_out, IsPart, IsFirst}
 use Rattle.timeline.specs.Lines.{line_of, posted_of, outbox_of, IsPlacedIn}
-use Rattle.timeline.specs.Sound.{HasMappings, HasEntities, IsShareOf, IsSoundTimeline}
+use Rattle.timeline.specs.Sound.{IsShareOf, IsSoundTimeline}
 use Rattle.timeline.proofs.Kept.{filled_first, numbers_first_in, numbers_first_out}
-use Rattle.timeline.proofs.TellsBounds.{number_among, among_item, item_among}
-use Rattle.timeline.proofs.Executed.{keys}
+use Rattle.timeline.proofs.TellsBounds.{among_item}
 
 -- ---- the ends at first
 

@@ -1,29 +1,26 @@
 -- What a sound timeline has written on a channel is in range.
-use Rattle.std.proofs.Common.{◌≡◌, ℕ, zero, suc, ◌+◌, ◌-◌, ◌*◌, ◌^◌, ◌<◌, ◌≤◌, Bool, true, nat_eq, length, refl, sym, ap, ◌∙◌, subst, inl, inr, arith, Some, slice_get}
+use Rattle.std.proofs.Common.{◌≡◌, ℕ, suc, ◌-◌, ◌^◌, ◌<◌, ◌≤◌, Bool, length, sym, ap, ◌∙◌, subst, inl, inr, arith, Some, slice_get}
 use Rattle.event_order.specs.declared.key.Key.{Key}
 use Rattle.event_order.specs.Pending.{Among}
-use Rattle.event_order.specs.Run.{share}
 use Rattle.event_order.proofs.Steps.{lt_or_ge}
 use Rattle.ssf_model.specs.declared.event.Event.{Event}
-use Rattle.ssf_model.specs.declared.entity.Entity.{Entity}
 use Rattle.ssf_model.specs.declared.plan.Plan.{Plan}
 use Rattle.ssf_model.specs.Reaction.{Reaction, Validity, KeepsValid, LatestTime}
 use Rattle.ssf_model.specs.Deliver.{IsModest}
-use Rattle.ssf_model.specs.Channels.{sent_by, numbered}
-use Rattle.ssf_model.specs.Run.{States, writes_at, machine_of, opening, Fits}
+use Rattle.ssf_model.specs.Channels.{sent_by}
+use Rattle.ssf_model.specs.Run.{States, writes_at, machine_of, Fits}
 use Rattle.ssf_model.specs.Scene.{Net, Scene, scene_of, world_at, event_at, channel_of}
 use Rattle.ssf_model.specs.Truth.{line_events, writes_on}
 use Rattle.ssf_model.proofs.Lists.{place_of}
 use Rattle.ssf_model.proofs.Counts.{numbered_is}
 use Rattle.run_laws.proofs.ByPlace.{count_after as channel_count}
 use Rattle.run_health.specs.Groups.{IsWriterOn}
-use Rattle.run_health.specs.Healthy.{MostEvents, spent_by}
+use Rattle.run_health.specs.Healthy.{spent_by}
 use Rattle.run_health.proofs.Along.{placed, sends_fine, healthy_along}
 use Rattle.sync_rules.specs.Bounds.{IsOutOf}
 use Rattle.sync_rules.specs.Sound.{made}
-use Rattle.sync_rules.proofs.Writes.{origin, made_up}
+use Rattle.sync_rules.proofs.Writes.{origin}
 use Rattle.timeline.specs.View.{TimelineOf}
-use Rattle.timeline.specs.Lines.{line_of}
 use Rattle.timeline_parts.specs.Sending.{written_of}
 use Rattle.timeline.specs.Sound.{IsSoundTimeline, IsRunOnLines}
 

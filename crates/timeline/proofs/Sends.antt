@@ -1,6 +1,6 @@
 -- What an event sends at its timeline, whose mappings stand in an order of their own, is on each channel what it sends in the
 -- run of the plan.
-use Rattle.std.proofs.Common.{◌≡◌, ℕ, ◌+◌, ◌<◌, ◌≤◌, ◌⊎◌, Bool, true, false, cond, nat_eq, not, ◌&&◌, List, [], ◌∷◌, ◌++◌, map, refl, sym, ap, ◌∙◌, subst, inl, inr, arith, append-nil, eq-eqb, eqb-true}
+use Rattle.std.proofs.Common.{◌≡◌, ℕ, ◌⊎◌, Bool, true, false, nat_eq, List, [], ◌∷◌, ◌++◌, map, refl, sym, ap, ◌∙◌, inl, inr, eq-eqb, eqb-true}
 use Rattle.std.specs.List.{filter, flat_map}
 use Rattle.std.proofs.lemmas.List.Elements.{filter-append}
 use Rattle.event_order.specs.Pending.{Among}
@@ -9,9 +9,8 @@ use Rattle.ssf_model.specs.declared.out.Written.{Written}
 use Rattle.ssf_model.specs.declared.out.Written.TheVariants.{Channel, Timer as TimerWrite}
 use Rattle.ssf_model.specs.declared.process.Process.{Process}
 use Rattle.ssf_model.specs.declared.plan.Mapping.{Mapping}
-use Rattle.ssf_model.specs.Reaction.{Each}
-use Rattle.ssf_model.specs.Channels.{Sent, message, wait_end, timer_of, sent, is_on}
-use Rattle.ssf_model.proofs.Lists.{different, each_among}
+use Rattle.ssf_model.specs.Channels.{Sent, message, sent, is_on}
+use Rattle.ssf_model.proofs.Lists.{each_among}
 use Rattle.run_health.proofs.Sends.{IsOneChannelEach}
 use Rattle.timeline_parts.specs.Sending.{mappings_on, sent_on}
 use Rattle.timeline.specs.declared.part.Cross.{Cross}

@@ -1,5 +1,5 @@
 -- What the execution of an event makes of a timeline is what the step makes of its view.
-use Rattle.std.proofs.Common.{◌≡◌, ℕ, zero, suc, ◌+◌, ◌<◌, ◌≤◌, ◌⊎◌, Bool, true, false, cond, nat_eq, nat_le, ◌&&◌, min, not, List, [], ◌∷◌, ◌++◌, length, refl, sym, ap, ◌∙◌, subst, inl, inr, arith, append-nil, Option, Some, None, is_some, option_map, unwrap_or}
+use Rattle.std.proofs.Common.{◌≡◌, ℕ, suc, ◌+◌, ◌≤◌, ◌⊎◌, Bool, true, false, cond, nat_eq, nat_le, ◌&&◌, min, not, List, [], ◌∷◌, ◌++◌, length, refl, sym, ap, ◌∙◌, subst, inl, inr, arith, append-nil, Option, Some, None, is_some, option_map, unwrap_or}
 use mathlib.Core.Path.{fun_ext}
 use Rattle.std.specs.List.{filter}
 use Rattle.event_order.specs.declared.key.Key.{Key}
@@ -8,11 +8,10 @@ use Rattle.event_order.proofs.Pending.{test_cases, among_filter, filter_among, f
 use Rattle.ssf_model.specs.declared.event.Event.{Event}
 use Rattle.ssf_model.specs.declared.event.Entry.{Entry}
 use Rattle.ssf_model.specs.declared.entity.Entity.{Entity}
-use Rattle.ssf_model.specs.Scene.{Scene, Net, world_at, event_at, time_of, channel_of}
+use Rattle.ssf_model.specs.Scene.{Scene, world_at, event_at, time_of, channel_of}
 use Rattle.ssf_model.specs.Truth.{is_on_line, has_channel, IsKeptWrite, IsStanding}
-use Rattle.sync_rules.specs.Parts.{Line}
 use Rattle.sync_rules.specs.Bounds.{IsOutOf, goes_out}
-use Rattle.sync_rules.specs.Shared.{IsShared, IsWrittenBy, IsRouted}
+use Rattle.sync_rules.specs.Shared.{IsShared, IsRouted}
 use Rattle.sync_rules.specs.Sound.{HasCome, IsSoundLine}
 use Rattle.sync_rules.specs.Steps.{stays, leaves, least_arrival, executed_line}
 use Rattle.sync_rules.proofs.Runs.{one_key}

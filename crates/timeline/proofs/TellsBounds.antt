@@ -1,17 +1,17 @@
 -- What a timeline tells of itself is what the rules tell of its view: its bounds, and what it has of its ends.
-use Rattle.std.proofs.Common.{◌≡◌, ℕ, zero, suc, ◌+◌, ◌<◌, ◌≤◌, ◌⊎◌, Bool, true, false, cond, nat_eq, min, List, [], ◌∷◌, refl, sym, ap, ◌∙◌, subst, inl, inr, arith, eq-eqb, eqb-true, Option, Some, None, option_map, unwrap_or}
+use Rattle.std.proofs.Common.{◌≡◌, ℕ, ◌+◌, ◌≤◌, ◌⊎◌, true, cond, nat_eq, min, List, [], ◌∷◌, refl, sym, ap, ◌∙◌, inl, inr, arith, eq-eqb, eqb-true, Option, Some, option_map, unwrap_or}
 use Rattle.event_order.specs.declared.key.Key.{Key}
 use Rattle.event_order.specs.Pending.{Among}
 use Rattle.event_order.proofs.Pending.{test_cases}
 use Rattle.event_order.proofs.Steps.{lt_or_ge}
 use Rattle.ssf_model.specs.declared.event.Event.{Event}
 use Rattle.ssf_model.specs.Scene.{Scene, Net}
-use Rattle.sync_rules.specs.Bounds.{IsInto, IsOutOf, bound_of, low_of, least_ahead_of, head_time}
+use Rattle.sync_rules.specs.Bounds.{bound_of, low_of, least_ahead_of, head_time}
 use Rattle.sync_rules.specs.Shared.{IsJoining}
-use Rattle.sync_rules.proofs.Bounds.{comes, held_top, held_below, IsHolder, held_cases}
+use Rattle.sync_rules.proofs.Bounds.{comes, held_top, held_below, held_cases}
 use Rattle.timeline_parts.specs.declared.ends.InEnd.{InEnd}
 use Rattle.timeline_parts.specs.Tables.{numbers_of, AreNumbered, item_at}
-use Rattle.timeline.specs.View.{TimelineOf, key_of, time_in}
+use Rattle.timeline.specs.View.{TimelineOf, key_of}
 use Rattle.timeline.specs.Holding.{least_held, bound_in, low_in, ahead_in, held_of}
 use Rattle.timeline.specs.Lines.{line_of, IsPlacedIn}
 

@@ -1,6 +1,6 @@
 -- What it means that a timeline is sound for the run of a plan: it has timeline i's share of the plan, and all that it holds
 -- is what the run has there after so many events.
-use Rattle.std.specs.Prelude.{ℕ, ◌≡◌, ◌+◌, ◌<◌, ◌≤◌, Bool, true, false, nat_eq, not, ◌&&◌, List, [], ◌∷◌, ◌++◌, map, length, Some, None, slice_get, slice_index}
+use Rattle.std.specs.Prelude.{ℕ, ◌≡◌, ◌+◌, ◌<◌, ◌≤◌, Bool, true, false, nat_eq, not, ◌&&◌, List, ◌∷◌, ◌++◌, map, length, Some, None, slice_get, slice_index}
 use Rattle.std.specs.List.{filter}
 use Rattle.event_order.specs.Pending.{Among}
 use Rattle.ssf_model.specs.declared.event.Event.{Event}

@@ -1,6 +1,5 @@
-use Rattle.std.proofs.Common.{◌≡◌, ℕ, suc, [], ◌∷◌, ◌++◌, ◌+◌, subst}
-use Rattle.ssf_model.specs.declared.event.Event.{Event}
-use Rattle.ssf_model.specs.Scene.{scene_of, world_at, event_at}
+use Rattle.std.proofs.Common.{◌≡◌, suc, [], ◌∷◌, ◌++◌, ◌+◌, subst}
+use Rattle.ssf_model.specs.Scene.{scene_of, world_at}
 use Rattle.sync_rules.specs.Steps.{executed_line}
 use Rattle.sync_rules.proofs.Runs.{one_number}
 use Rattle.timeline.specs.Lines.{line_of}

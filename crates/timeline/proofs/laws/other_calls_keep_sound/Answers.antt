@@ -1,4 +1,4 @@
-use Rattle.std.proofs.Common.{refl, ap, ◌∙◌}
+use Rattle.std.proofs.Common.{refl, ap}
 use Rattle.ssf_model.specs.Scene.{scene_of}
 use Rattle.timeline.proofs.Executed.{keys}
 use Rattle.run_laws.proofs.Histories.{line_rises}
