@@ -7,4 +7,4 @@ pub mod Sound
 pub mod Modest
 pub mod Starting
 pub mod Finding
-mod Worked
+pub mod Worked

@@ -54,7 +54,7 @@ abbrev at : ℕ → ℕ → ℕ → ℕ → List Line → Seen
 at time channel number entity lines = record { time = time; channel = channel; number = number; entity = entity; lines = lines }
 
 -- the address 10.0.0.n
-abbrev address : ℕ → ℕ
+abbrev pub address : ℕ → ℕ
 address n = 10 * 16777216 + n
 
 abbrev a_route : (base bits interface next cost : ℕ) → Route
@@ -208,7 +208,7 @@ server_rows = record {
   poke_out = 2;
 }
 
-abbrev net_draft : Draft (Unit {0}) HostFields
+abbrev pub net_draft : Draft (Unit {0}) HostFields
 net_draft = record {
   behaviour = tt;
   entities =

@@ -1,3 +1,4 @@
 pub mod Sessions
 pub mod Sources
 pub mod Delivered
+mod Worked
