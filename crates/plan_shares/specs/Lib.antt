@@ -1,0 +1,4 @@
+pub mod Shares
+pub mod Lists
+pub mod Drafts
+pub mod Laws
