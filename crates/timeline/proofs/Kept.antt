@@ -10,10 +10,11 @@ use Rattle.timeline_parts.specs.Tables.{numbers_of, AreNumbered, changed}
 use Rattle.timeline_parts.specs.Sending.{with_event, put_one, all_put, count_of, IsSent}
 use Rattle.timeline_parts.proofs.Tables.{numbered_same}
 use Rattle.timeline_parts.proofs.Sending.{numbers_all_counted, numbers_all_put}
-use Rattle.timeline.specs.declared.part.Cross.{Cross}
+use Rattle.timeline_parts.specs.declared.part.Cross.{Cross}
 use Rattle.timeline.specs.Holding.{IsFilled}
 use Rattle.timeline.specs.Moving.{posted_end}
-use Rattle.timeline.specs.Opening.{channel_of, first_in, first_out}
+use Rattle.timeline_parts.specs.Parts.{channel_of}
+use Rattle.timeline.specs.Opening.{first_in, first_out}
 
 pub each_at : {T : Type 0} (Q : T → Type 0) (xs : List T) (i : ℕ) (x : T) → i < length xs → x ≡ get_or xs i x → Each Q xs → Q x
 each_at Q [] i x h e q = absurd (omega arith)

@@ -20,11 +20,12 @@ use Rattle.timeline_parts.specs.declared.ends.InEnd.{InEnd}
 use Rattle.timeline_parts.specs.declared.ends.OutEnd.{OutEnd}
 use Rattle.timeline_parts.specs.Tables.{numbers_of, AreRising, AreNumbered, item_at}
 use Rattle.timeline_parts.specs.Sending.{written_of}
-use Rattle.timeline.specs.declared.part.Cross.{Cross}
-use Rattle.timeline.specs.declared.part.Part.{Part}
+use Rattle.timeline_parts.specs.declared.part.Cross.{Cross}
+use Rattle.timeline_parts.specs.declared.part.Part.{Part}
 use Rattle.timeline.specs.View.{TimelineOf, key_of}
 use Rattle.timeline.specs.Holding.{taken_of, held_of, IsFilled}
-use Rattle.timeline.specs.Opening.{channel_of, first_in, first_out, IsPart, IsFirst}
+use Rattle.timeline_parts.specs.Parts.{channel_of, IsPart}
+use Rattle.timeline.specs.Opening.{first_in, first_out, IsFirst}
 use Rattle.timeline.specs.Lines.{line_of, posted_of, outbox_of, IsPlacedIn}
 use Rattle.timeline.specs.Sound.{IsShareOf, IsSoundTimeline}
 use Rattle.timeline.proofs.Kept.{filled_first, numbers_first_in, numbers_first_out}

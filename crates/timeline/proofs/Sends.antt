@@ -13,7 +13,7 @@ use Rattle.ssf_model.specs.Channels.{Sent, message, sent, is_on}
 use Rattle.ssf_model.proofs.Lists.{each_among}
 use Rattle.run_health.proofs.Sends.{IsOneChannelEach}
 use Rattle.timeline_parts.specs.Sending.{mappings_on, sent_on}
-use Rattle.timeline.specs.declared.part.Cross.{Cross}
+use Rattle.timeline_parts.specs.declared.part.Cross.{Cross}
 use Rattle.timeline.specs.View.{routes_by, mapping_of}
 use Rattle.timeline.specs.Sound.{is_inside, is_outgoing}
 

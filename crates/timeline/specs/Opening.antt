@@ -6,12 +6,9 @@ use Rattle.ssf_model.specs.declared.plan.Mapping.{Mapping}
 use Rattle.timeline_parts.specs.declared.ends.InEnd.{InEnd}
 use Rattle.timeline_parts.specs.declared.ends.OutEnd.{OutEnd}
 use Rattle.timeline_parts.specs.Tables.{AreRising, AreNumbered}
-use Rattle.timeline.specs.declared.part.Cross.{Cross}
-use Rattle.timeline.specs.declared.part.Part.{Part}
+use Rattle.timeline_parts.specs.declared.part.Cross.{Cross}
+use Rattle.timeline_parts.specs.declared.part.Part.{Part}
 use Rattle.timeline.specs.View.{TimelineOf, key_of, routes_by}
-
-abbrev pub channel_of : Cross → ℕ
-channel_of cross = cross.mapping.channel
 
 -- the ends of the channels at first: nothing is taken, and nothing written
 abbrev pub first_in : Cross → ℕ × InEnd
@@ -19,14 +16,6 @@ first_in cross = (cross.mapping.channel, record { place = cross.place; appointed
 
 abbrev pub first_out : {P : Type 0} → Cross → ℕ × OutEnd P
 first_out cross = (cross.mapping.channel, record { appointed = cross.appointed; delay = cross.mapping.delay; posted = 0; written = 0; outbox = [] })
-
--- the lists of a part are in order: the numbers of its entities and of its channels rise, and no two events have one key
-pub record IsPart {B S P : Type 0} (part : Part B S P) : Type 0 where
-  pub entities : AreNumbered part.entities
-  pub counts : AreNumbered part.counts
-  pub ins : AreRising (map channel_of part.ins)
-  pub outs : AreRising (map channel_of part.outs)
-  pub events : IsApart key_of part.events
 
 -- a timeline that has this part and has executed nothing
 pub record IsFirst {B S P : Type 0} (part : Part B S P) (until budget : ℕ) (t : TimelineOf B S P) : Type 0 where

@@ -21,13 +21,14 @@ use Rattle.sync_rules.specs.Shared.{IsShared}
 use Rattle.sync_rules.specs.Sound.{IsSoundLine, IsCounted}
 use Rattle.timeline_parts.specs.declared.ends.InEnd.{InEnd}
 use Rattle.timeline_parts.specs.Tables.{numbers_of, item_at}
-use Rattle.timeline.specs.declared.part.Cross.{Cross}
-use Rattle.timeline.specs.declared.part.Part.{Part}
+use Rattle.timeline_parts.specs.declared.part.Cross.{Cross}
+use Rattle.timeline_parts.specs.declared.part.Part.{Part}
 use Rattle.timeline.specs.View.{TimelineOf, mapping_of}
 use Rattle.timeline.specs.Holding.{bound_in, taken_of, IsInOrder}
 use Rattle.timeline.specs.Executing.{refusal, IsRun}
 use Rattle.timeline.specs.Moving.{IsTaken, IsHandedOut}
-use Rattle.timeline.specs.Opening.{IsPart, IsFirst}
+use Rattle.timeline_parts.specs.Parts.{IsPart}
+use Rattle.timeline.specs.Opening.{IsFirst}
 use Rattle.timeline.specs.Lines.{line_of, IsPlacedIn}
 
 -- ---- a timeline's share of a plan. `line` numbers the entities by timelines

@@ -8,7 +8,7 @@ use Rattle.ssf_model.specs.declared.plan.Mapping.{Mapping}
 use Rattle.timeline_parts.specs.declared.ends.InEnd.{InEnd}
 use Rattle.timeline_parts.specs.declared.ends.OutEnd.{OutEnd}
 use Rattle.timeline_parts.specs.Sending.{mappings_on}
-use Rattle.timeline.specs.declared.part.Cross.{Cross}
+use Rattle.timeline_parts.specs.declared.part.Cross.{Cross}
 
 -- the last time that it executes and the most events; its entities with their numbers, and the counts of the channels on
 -- which they write; the mappings between its entities, those that come from other timelines and those that go to others,

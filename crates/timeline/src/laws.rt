@@ -17,7 +17,7 @@ ghost use Rattle.sync_rules.specs.Sound.{made, HasDone, IsSoundBarrier};
 ghost use Rattle.sync_rules.specs.Steps.{CanExecute, CanEnter, IsOver, first_line, executed_line, posted_line, taken_line, entered_line};
 ghost use Rattle.timeline_parts.specs.Tables.{numbers_of};
 ghost use Rattle.timeline_parts.specs.Sending.{written_of};
-ghost use Rattle.timeline.specs.declared.part.Part.{Part as PartValue};
+ghost use Rattle.timeline_parts.specs.declared.part.Part.{Part as PartValue};
 ghost use Rattle.timeline.specs.View.{TimelineOf};
 ghost use Rattle.timeline.specs.Holding.{bound_in, low_in, ahead_in, taken_of, is_over, IsInOrder};
 ghost use Rattle.timeline.specs.Executing.{refusal, MayRun, spent_of};

@@ -8,9 +8,8 @@ mod executing;
 pub mod laws;
 mod moving;
 mod opening;
-mod part;
 mod timeline;
 
 pub use answers::{Holder, Ran};
-pub use part::{Cross, Part};
 pub use timeline::Timeline;
+pub use timeline_parts::{Cross, Part};

@@ -8,16 +8,16 @@ ghost use Rattle.timeline_parts.specs.RouteMap.{route};
 ghost use Rattle.timeline_parts.specs.Settling.{AreNew};
 ghost use Rattle.timeline_parts.specs.Sending.{mappings_on};
 ghost use Rattle.timeline.specs.View.{key_of, routes_by};
-ghost use Rattle.timeline.specs.Opening.{first_in, first_out, IsPart, IsFirst, IsOpened, part_of};
+ghost use Rattle.timeline_parts.specs.Parts.{IsPart};
+ghost use Rattle.timeline.specs.Opening.{first_in, first_out, IsFirst, IsOpened, part_of};
 
 use crate::bounds::{holder_of, least_held};
-use crate::part::{Cross, Part};
 use crate::timeline::Timeline;
 use pending_queue::Pending;
 use sim_base::{ListOf, Memory};
 use ssf_model::{Behaviour, Event, Mapping, Out};
 use std::alloc::Global;
-use timeline_parts::{Desk, InEnd, OutEnd, Outbox, Routes};
+use timeline_parts::{Cross, Desk, InEnd, OutEnd, Outbox, Part, Routes};
 
 /// What is made beside a part's own lists.
 #[derive(Drop)]

@@ -9,13 +9,12 @@ ghost use Rattle.timeline.specs.View.{time_in};
 ghost use Rattle.timeline.specs.Holding.{bound_in, holder_in, low_in, ahead_in, is_done, is_over, taken_of, held_of, IsInOrder};
 
 use crate::answers::Holder;
-use crate::part::Cross;
 use pending_queue::Pending;
 use sim_base::ListOf;
 use ssf_model::{Behaviour, Entity, Entry, Event, Mapping, Out};
 use std::alloc::Global;
 use std::marker::Model;
-use timeline_parts::{Desk, InEnd, Routes, place_of};
+use timeline_parts::{Cross, Desk, InEnd, Routes, place_of};
 
 /// A timeline: its entities, its pending events, the ends of its channels, and what it executed.
 #[derive(Drop)]
