@@ -1,5 +1,5 @@
 -- The ranges of what is drawn, and of the nets that links name.
-use Rattle.std.proofs.Common.{◌≡◌, ℕ, ◌+◌, ◌*◌, ◌/◌, ◌%◌, ◌^◌, ◌<◌, ◌≤◌, ◌≢◌, ◌⊎◌, List, [], ◌∷◌, ◌++◌, length, length-append, refl, sym, ap, ◌∙◌, arith, inl, inr}
+use Rattle.std.proofs.Common.{◌≡◌, ℕ, ◌+◌, ◌*◌, ◌/◌, ◌%◌, ◌<◌, ◌≤◌, ◌≢◌, [], ◌∷◌, ◌++◌, length, length-append, ap, ◌∙◌, arith, inl, inr}
 use Rattle.std.specs.Prelude.{decimal}
 use Rattle.std.proofs.Math.Nat.{mod-lt, mod-eq_of_lt, mod_self}
 use Rattle.std.proofs.lemmas.Bool.{cases_lt}
@@ -38,7 +38,7 @@ next_differs size i two within same =
     elim (cases_lt (i + 1) size) [
       | inl less ↦ let next : (i + 1) % size ≡ i + 1 = mod-eq_of_lt less in omega arith
       | inr most ↦
-        let last : i + 1 ≡ size = omega arith in
-        let first : (i + 1) % size ≡ 0 = ap (λ (n : ℕ). n % size) last ∙ mod_self size in
-        omega arith
+          let last : i + 1 ≡ size = omega arith in
+          let first : (i + 1) % size ≡ 0 = ap (λ (n : ℕ). n % size) last ∙ mod_self size in
+          omega arith
     ]

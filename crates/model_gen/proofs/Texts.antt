@@ -1,14 +1,11 @@
 -- The texts of the parts of a campus, piece by piece.
-use Rattle.std.proofs.Common.{◌≡◌, ℕ, ◌+◌, ◌%◌, ◌^◌, ◌<◌, ◌≤◌, List, [], ◌∷◌, ◌++◌, refl, sym, ap, ◌∙◌, arith, append_assoc, append-nil, Bool, true, false, nat_lt, if◌then◌else◌}
+use Rattle.std.proofs.Common.{◌≡◌, ℕ, ◌+◌, ◌%◌, ◌^◌, ◌<◌, ◌≤◌, List, [], ◌∷◌, ◌++◌, refl, ap, ◌∙◌, arith, append_assoc, append-nil, Bool, false, nat_lt, if◌then◌else◌}
 use Rattle.std.specs.Prelude.{map, decimal, codes}
-use Rattle.std.specs.List.{flat_map, list_all}
+use Rattle.std.specs.List.{flat_map}
 use Rattle.std.proofs.lemmas.Bool.Decides.{nat_tests}
 use Rattle.std.proofs.lemmas.Grind.{flat_map-append}
 use Rattle.std.proofs.lemmas.List.Folds.{flat_map-map}
-use Rattle.dml_lexer.specs.Tokens.{is_word_byte}
-use Rattle.dml_tree.specs.declared.tree.Attribute.{Attribute}
-use Rattle.dml_tree.specs.Printing.{printing, blanks}
-use Rattle.dml_tree.specs.TreeView.{tree_of}
+use Rattle.dml_tree.specs.Printing.{blanks}
 use Rattle.model_gen.specs.Draws.{delay, server_net}
 use Rattle.model_gen.specs.Campus.{text, word, list, lines, numbers, router, hosts, first_link, second_link, net_of, link, delay_text, ring_link, ring_links, pattern_of, traffic, campus_tree, campus_text}
 use Rattle.model_gen.proofs.Lines.{IsWordText, list_lines, text_lines, then_word, decimal_is_word}
@@ -75,9 +72,9 @@ pub link_is : (out : List ℕ) (size i d : ℕ) → i < 2 ^ 64 → (i + 1) % siz
 unfolding ring_link
 link_is out size i d hi hj hd =
     ap (λ (l : List ℕ). out ++ l) (link_lines 2 (decimal i ++ codes ":0(2)") (decimal ((i + 1) % size) ++ codes ":0(3)") (delay_text d)
-      (then_word (decimal i) (codes ":0(2)") (decimal_is_word i hi) refl)
-      (then_word (decimal ((i + 1) % size)) (codes ":0(3)") (decimal_is_word ((i + 1) % size) hj) refl)
-      (then_word (codes "0.000") (decimal d) zeros_are_word (decimal_is_word d hd).all))
+    (then_word (decimal i) (codes ":0(2)") (decimal_is_word i hi) refl)
+    (then_word (decimal ((i + 1) % size)) (codes ":0(3)") (decimal_is_word ((i + 1) % size) hj) refl)
+    (then_word (codes "0.000") (decimal d) zeros_are_word (decimal_is_word d hd).all))
     ∙ link_parts out (decimal i) (decimal ((i + 1) % size)) (decimal d)
 
 -- where there are two nets or more, all of them have their link
@@ -130,8 +127,8 @@ pub pattern_is : (out : List ℕ) (i s : ℕ) → i < 2 ^ 64 → s < 2 ^ 64 → 
 unfolding pattern_of
 pattern_is out i s hi hs =
     ap (λ (l : List ℕ). out ++ l) (lines_of_pattern (decimal i ++ codes ":1") (decimal s ++ codes ":2(0)")
-      (then_word (decimal i) (codes ":1") (decimal_is_word i hi) refl)
-      (then_word (decimal s) (codes ":2(0)") (decimal_is_word s hs) refl))
+    (then_word (decimal i) (codes ":1") (decimal_is_word i hi) refl)
+    (then_word (decimal s) (codes ":2(0)") (decimal_is_word s hs) refl))
     ∙ pattern_parts out (decimal i) (decimal s)
 
 -- ---- the traffic

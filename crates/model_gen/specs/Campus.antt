@@ -50,17 +50,21 @@ router = list "router" (
     ∷ list "graph" (session "ip" [] ∷ session "OSPF" [] ∷ [])
     ∷ [])
 
+-- the sessions of a host
+abbrev pub host_graph : Attribute
+host_graph = list "graph" (
+    session "client" (word "start_time" "0.001" ∷ word "file_size" "20000" ∷ [])
+    ∷ session "server" (word "port" "10" ∷ [])
+    ∷ session "tcp" []
+    ∷ session "ip" []
+    ∷ [])
+
 unfoldable pub hosts : Attribute
 hosts = list "host" (
     list "idrange" (word "from" "1" ∷ word "to" "2" ∷ [])
     ∷ list "interface" (word "id" "0" ∷ word "bitrate" "10000000" ∷ [])
     ∷ list "nhi_route" (word "dest" "default" ∷ word "interface" "0" ∷ [])
-    ∷ list "graph" (
-        session "client" (word "start_time" "0.001" ∷ word "file_size" "20000" ∷ [])
-        ∷ session "server" (word "port" "10" ∷ [])
-        ∷ session "tcp" []
-        ∷ session "ip" []
-        ∷ [])
+    ∷ host_graph
     ∷ [])
 
 -- a link of two attachments

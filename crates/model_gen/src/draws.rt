@@ -23,7 +23,8 @@ pub(crate) fn generator(seed: u64) -> Pcg32
     Pcg32::seed_from_u64(seed)
 }
 
-/// What is drawn for the next net of a campus of this size.
+/// What is drawn for the next net of a campus of this size: one word for the delay, and then one for
+/// the server.
 pub(crate) fn draw_next(generator: &mut Pcg32, size: u32) -> Draw
     requires { 1 ≤ size }
     ensures delay { (seed i : ℕ) → generator.old ≡ generator_after seed (2 * i) → result.delay ≡ delay seed i }

@@ -1,7 +1,5 @@
-use Rattle.std.proofs.Common.{◌≡◌, ◌*◌, ◌++◌}
-use Rattle.std.specs.List.{flat_map}
-use Rattle.model_gen.specs.Draws.{delay, generator_after}
-use Rattle.model_gen.specs.Campus.{numbers, lines, ring_link}
+use Rattle.model_gen.specs.Draws.{delay}
+use Rattle.model_gen.specs.Campus.{lines, ring_link}
 use Rattle.model_gen.proofs.Steps.{IsWritten}
 use Rattle.model_gen.proofs.ring.push_links.Given as goal
 

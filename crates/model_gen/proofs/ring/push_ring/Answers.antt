@@ -1,4 +1,4 @@
-use Rattle.std.proofs.Common.{◌≡◌, ◌≤◌, List, ℕ, ◌++◌, OnOk, sym, subst}
+use Rattle.std.proofs.Common.{◌≡◌, List, ℕ, ◌++◌, OnOk, sym, subst}
 use Rattle.model_gen.proofs.Texts.{ring_is}
 use Rattle.model_gen.proofs.ring.push_ring.Goals as goal
 

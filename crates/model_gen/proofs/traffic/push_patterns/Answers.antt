@@ -1,4 +1,4 @@
-use Rattle.std.proofs.Common.{◌≡◌, ℕ, ◌++◌, ap, ◌∙◌}
+use Rattle.std.proofs.Common.{ℕ, ◌++◌, ap, ◌∙◌}
 use Rattle.model_gen.specs.Draws.{server_net}
 use Rattle.model_gen.specs.Campus.{lines, pattern_of}
 use Rattle.model_gen.proofs.Steps.{none_written, one_written}

@@ -1,4 +1,3 @@
-use Rattle.std.proofs.Common.{◌≡◌, ◌*◌, ◌++◌}
 use Rattle.model_gen.specs.Draws.{server_net}
 use Rattle.model_gen.specs.Campus.{lines, pattern_of}
 use Rattle.model_gen.proofs.Steps.{IsWritten}

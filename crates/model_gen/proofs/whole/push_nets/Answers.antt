@@ -1,4 +1,4 @@
-use Rattle.std.proofs.Common.{◌≡◌, ℕ, ◌∙◌}
+use Rattle.std.proofs.Common.{ℕ, ◌∙◌}
 use Rattle.model_gen.specs.Campus.{lines, net_of}
 use Rattle.model_gen.proofs.Steps.{one_more}
 use Rattle.model_gen.proofs.whole.push_nets.Goals as goal
