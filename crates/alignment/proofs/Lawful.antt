@@ -10,7 +10,8 @@ use Rattle.ssf_model.specs.Reaction.{Each}
 use Rattle.ssf_model.specs.Run.{IsWired}
 use Rattle.alignment.specs.declared.labels.Mode.{Mode}
 use Rattle.alignment.specs.Alignment.{IsAlignment, line_of, ties_of, timeline_count}
-use Rattle.alignment.specs.Classes.{is_cross, is_windowed, lesser, least_windowed}
+use Rattle.ssf_model.specs.Truth.{lesser}
+use Rattle.alignment.specs.Classes.{is_cross, is_windowed, least_windowed}
 use Rattle.alignment.proofs.Joining.{joined_mapping}
 use Rattle.alignment.proofs.Numbering.{line_below, ends_within}
 

@@ -2,6 +2,7 @@
 use Rattle.std.specs.Prelude.{ℕ, min, Bool, not, ◌&&◌, nat_eq, nat_lt, if◌then◌else◌, List, map, Option, Some, None}
 use Rattle.std.specs.List.{filter, fold}
 use Rattle.ssf_model.specs.declared.plan.Mapping.{Mapping}
+use Rattle.ssf_model.specs.Truth.{lesser}
 use Rattle.alignment.specs.declared.mappings.Class.{Class}
 use Rattle.alignment.specs.declared.mappings.Class.TheVariants.{Inside, Appointed, Windowed}
 use Rattle.alignment.specs.Alignment.{line_of}
@@ -19,11 +20,6 @@ is_windowed lines threshold m = is_cross lines m && not (nat_lt m.delay threshol
 
 abbrev pub class_of : List ℕ → ℕ → Mapping → Class
 class_of lines threshold m = if is_appointed lines threshold m then Appointed else (if is_windowed lines threshold m then Windowed else Inside)
-
--- the lesser of a number, where there is one, and another
-abbrev pub lesser : Option ℕ → ℕ → Option ℕ
-lesser None n = Some n
-lesser (Some m) n = Some (min m n)
 
 -- the least delay of the windowed mappings, where there is one
 abbrev pub least_windowed : List ℕ → ℕ → List Mapping → Option ℕ

@@ -41,9 +41,8 @@ pub fn cross_mappings_take_time<B: Behaviour>()
         → (m : MappingValue) → Among m plan.mappings → (line_of lines m.from < timeline_count lines) × (line_of lines m.to < timeline_count lines) }
 {}
 
-/// The least delay of the windowed mappings is at most that of each (`least`) and that of one of them
-///
-/// (`is`).
+/// The least delay of the windowed mappings is at most the delay of each of them (`least`), and it is
+/// the delay of one of them (`is`).
 pub fn least_windowed_is_least()
     ensures least { (lines : List ℕ) (threshold : ℕ) (mappings : List MappingValue) (m : MappingValue) → Among m mappings → is_windowed lines threshold m ≡ true
         → (d : ℕ) × (least_windowed lines threshold mappings ≡ Some d) × (d ≤ m.delay) }

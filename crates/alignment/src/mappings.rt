@@ -1,7 +1,8 @@
 //! Which mappings lead from one timeline to another, and how these are kept in step.
 ghost use Rattle.std.specs.Prelude.{◌≡◌, ◌<◌, length, slice_get, IfOk, Some};
 ghost use Rattle.ssf_model.specs.Run.{IsWired};
-ghost use Rattle.alignment.specs.Classes.{class_of, classified, lesser};
+ghost use Rattle.ssf_model.specs.Truth.{lesser};
+ghost use Rattle.alignment.specs.Classes.{class_of, classified};
 
 use crate::Alignment;
 use sim_base::Memory;

@@ -5,7 +5,7 @@ use Rattle.std.proofs.lemmas.List.{get_or-set_same, length-set}
 use Rattle.std.proofs.lemmas.Option.{slice_get_within}
 use Rattle.std.specs.List.Sorted.{IsStrictlyIncreasing}
 use Rattle.appointments.specs.Mails.{ChannelMail, Mails, IsMails, row_at, mail_at}
-use Rattle.appointments.proofs.Places.{one_place}
+use Rattle.channel_places.proofs.Places.{one_place}
 
 module _ {P : Type 0} where
   row_is : (cs : List ℕ) (rows : List (ChannelMail P)) (c k : ℕ) (d : ChannelMail P) → slice_get cs k ≡ Some c → ((j : ℕ) → slice_get cs j ≡ Some c → j ≡ k) → length rows ≡ length cs → row_at cs rows c ≡ get_or rows k d

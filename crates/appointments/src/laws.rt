@@ -8,7 +8,7 @@ ghost use Rattle.ssf_model.specs.Truth.{IsTrueParcel};
 ghost use Rattle.appointments.specs.Mails.{ChannelMail, posted_of, no_mail};
 ghost use Rattle.appointments.specs.Posts.{IsSoundMail, posted_mail, taken_mail, taken_parcel};
 
-/// The mail on an appointed channel on which nothing was posted is sound.
+/// The mail on a channel on which nothing was posted is sound.
 pub fn empty_mails_are_sound<X, P>()
     ensures { (s : Scene X (Event P)) (c : ℕ) → IsSoundMail s c (no_mail {P = P}) }
 {}

@@ -1,9 +1,6 @@
 //! The mail, and the mail on each of its channels.
 
-ghost use Rattle.std.specs.Prelude.{◌≡◌, ◌+◌, ◌<◌, ◌≤◌, ◌^◌, length, replicate, slice_get, Some, IfOk, IsOk, OnOk, OnErr};
-ghost use Rattle.std.specs.List.{Contains};
-ghost use Rattle.std.specs.List.Sorted.{IsStrictlyIncreasing};
-
+use channel_places::place_of;
 use sim_base::{ListOf, Memory};
 use ssf_model::{Event, Parcel};
 use std::alloc::Global;
@@ -54,18 +51,6 @@ impl<P> Model for Mail<P> {
     ghost view = { λ m. record { channels = m.channels.items; rows = m.rows.items } };
 
     ghost invariant = { λ m. IsMails (record { channels = m.channels.items; rows = m.rows.items }) };
-}
-
-/// The place of one of these channels, which rise.
-fn place_of(channels: &[u32], channel: u32) -> usize
-    requires rising { IsStrictlyIncreasing channels.now }
-    requires among { Contains channels.now channel }
-    ensures { slice_get channels.now result ≡ Some channel }
-{
-    match channels.binary_search(&channel) {
-        Ok(place) => place,
-        Err(_) => unreachable!(),
-    }
 }
 
 impl<P: Drop> Inbox<P> {
@@ -167,7 +152,7 @@ impl<P: Drop> Inbox<P> {
 }
 
 impl<P: Drop> Mail<P> {
-    ghost use Rattle.std.specs.Prelude.{ℕ, ◌≡◌, ◌+◌, ◌<◌, ◌≤◌, ◌^◌, length, slice_get, Some, IfOk, IsOk, OnOk, OnErr};
+    ghost use Rattle.std.specs.Prelude.{ℕ, ◌≡◌, ◌+◌, ◌<◌, ◌≤◌, ◌^◌, length, IfOk, IsOk, OnOk, OnErr};
     ghost use Rattle.std.specs.List.{Contains};
     ghost use Rattle.std.specs.List.Sorted.{IsStrictlyIncreasing};
     ghost use Rattle.appointments.specs.Mails.{first_mails, mail_at, posted_of, IsMails};

@@ -1,3 +1,3 @@
-mod Places
+mod Latest
 mod Rounds
 mod Worked

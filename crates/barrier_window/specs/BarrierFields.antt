@@ -2,24 +2,16 @@
 use Rattle.std.specs.Prelude.{ℕ, ◌≡◌, ◌+◌, ◌<◌, ◌≤◌, ◌^◌, Bool, List, length, Option, Some, None}
 use Rattle.std.specs.List.Sorted.{IsStrictlyIncreasing}
 
--- the least delay of the windowed channels, and None where there are none
--- the last tick that is executed
--- how often the barrier was crossed, and the window that stands since; 0 and 0 at first
--- the cross channels in rising order, and for each of them, in that order:
---   the number of writes that was handed in when the barrier was last crossed, and 0 before
---   the number that was handed in last, and 0 before
--- for each timeline the least time that it reported in this round, and None where it has not reported
--- whether the barrier has ended
 pub record BarrierFields : Type 0 where
-  pub lookahead : Option ℕ
-  pub until : ℕ
-  pub round : ℕ
-  pub window : ℕ
-  pub channels : List ℕ
-  pub counts : List ℕ
-  pub sent : List ℕ
-  pub reports : List (Option ℕ)
-  pub ended : Bool
+  pub lookahead : Option ℕ  -- the least delay of the windowed channels, in ticks, and None where there are none
+  pub until : ℕ  -- the last tick that is executed
+  pub round : ℕ  -- how often the barrier was crossed
+  pub window : ℕ  -- the window that stands since then, in ticks, and 0 at first
+  pub channels : List ℕ  -- the cross channels, in rising order
+  pub counts : List ℕ  -- for each of these the number of its writes, as reported when the barrier was last crossed, and 0 before
+  pub sent : List ℕ  -- for each of these the number of its writes that was reported last, and 0 before
+  pub reports : List (Option ℕ)  -- for each timeline the least time that it reported in this round, and None before it has
+  pub ended : Bool  -- whether the barrier has ended
 
 -- a delay from 1 to 10^15, or none
 abbrev pub IsLookahead : Option ℕ → Type 0

@@ -1,6 +1,7 @@
 -- What reports and crossings make of a barrier.
-use Rattle.std.specs.Prelude.{ℕ, ◌+◌, ◌-◌, ◌≡◌, ◌^◌, true, false, nat_eq, nat_le, min, if◌then◌else◌, List, [], ◌∷◌, length, replicate, slice_set, slice_get, Option, Some, None}
+use Rattle.std.specs.Prelude.{ℕ, ◌+◌, ◌≡◌, true, false, nat_eq, nat_le, min, if◌then◌else◌, List, [], ◌∷◌, length, replicate, slice_set, slice_get, Option, Some, None}
 use Rattle.std.specs.List.{All, Contains}
+use Rattle.sim_base.specs.MemoryObjects.{risen}
 use Rattle.ssf_model.specs.Truth.{next_window}
 use Rattle.barrier_window.specs.BarrierFields.{BarrierFields}
 use Rattle.barrier_window.specs.declared.barrier.Reported.{Reported}
@@ -79,13 +80,9 @@ crossing_by (Some timeline) b = Waiting timeline
 unfoldable pub crossing : BarrierFields → Crossing
 crossing b = if b.ended then Ended else crossing_by (first_without 0 b.reports) b
 
--- a count of 64 bits goes up by one, and stands still at its end
-abbrev pub counted_up : ℕ → ℕ
-counted_up n = min (n + 1) (2 ^ 64 - 1)
-
 -- the barrier in its next round
 abbrev pub crossed_to : ℕ → BarrierFields → BarrierFields
-crossed_to window b = record b { round = counted_up b.round; window = window; counts = b.sent; reports = replicate (length b.reports) None }
+crossed_to window b = record b { round = risen b.round; window = window; counts = b.sent; reports = replicate (length b.reports) None }
 
 -- the barrier after an answer
 abbrev pub after_crossing : Crossing → BarrierFields → BarrierFields

@@ -1,12 +1,13 @@
 //! The barrier, its reports and its crossings.
 
-ghost use Rattle.std.specs.Prelude.{◌≡◌, ◌<◌, ◌≤◌, ◌^◌, drop, length, replicate, slice_get, Some, None};
+ghost use Rattle.std.specs.Prelude.{◌≡◌, ◌<◌, ◌≤◌, ◌^◌, drop, length, replicate, None};
 ghost use Rattle.std.specs.List.{All, Contains};
 ghost use Rattle.std.specs.List.Sorted.{IsStrictlyIncreasing};
 ghost use Rattle.ssf_model.specs.Truth.{next_window};
 ghost use Rattle.barrier_window.specs.BarrierFields.{IsLookahead};
 ghost use Rattle.barrier_window.specs.Crossings.{latest_of, first_without};
 
+use channel_places::place_of;
 use sim_base::Memory;
 use std::alloc::Global;
 use std::marker::Model;
@@ -59,18 +60,6 @@ impl Model for Barrier {
     ghost view = { fields_of };
 
     ghost invariant = { IsBarrierInside };
-}
-
-/// The place of one of these channels, which rise.
-fn place_of(channels: &[u32], channel: u32) -> usize
-    requires rising { IsStrictlyIncreasing channels.now }
-    requires among { Contains channels.now channel }
-    ensures { slice_get channels.now result ≡ Some channel }
-{
-    match channels.binary_search(&channel) {
-        Ok(place) => place,
-        Err(_) => unreachable!(),
-    }
 }
 
 /// Puts the numbers of some channels in their places.

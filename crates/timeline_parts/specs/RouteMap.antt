@@ -1,4 +1,4 @@
--- Mappings that stand in a map under their out-channels. No public clause cites this file.
+-- Mappings that stand in a map under their out-channels: those of one out-channel.
 use Rattle.std.specs.Prelude.{ℕ, List, [], Option, unwrap_or}
 use Rattle.std.specs.Ordering.{nat_cmp}
 use Rattle.std.specs.BTreeMap.{BTreeMap, get}

@@ -2,7 +2,7 @@ use Rattle.std.proofs.Common.{ℕ, ◌≡◌, ◌+◌, ◌∙◌, List, [], ◌�
 use Rattle.std.proofs.lemmas.List.{take_more}
 use Rattle.std.proofs.lemmas.Option.{slice_get_within}
 use Rattle.barrier_window.specs.Crossings.{latest_of}
-use Rattle.barrier_window.proofs.Places.{put_next, latest_of_none, length-latest_of}
+use Rattle.barrier_window.proofs.Latest.{put_next, latest_of_none, length-latest_of}
 use Rattle.barrier_window.proofs.barrier.put_numbers.Goals as goal
 
 pub loop-pair-init : goal.loop-pair-init

@@ -3,7 +3,7 @@ use Rattle.std.specs.List.{All, Contains}
 use Rattle.barrier_window.specs.BarrierFields.{BarrierFields}
 use Rattle.barrier_window.specs.Inside.{fields_of}
 use Rattle.barrier_window.specs.Crossings.{latest_of, after_report}
-use Rattle.barrier_window.proofs.Places.{length-latest_of}
+use Rattle.barrier_window.proofs.Latest.{length-latest_of}
 use Rattle.barrier_window.proofs.Rounds.{put_back, stays_at_stale, taken_is}
 use Rattle.barrier_window.proofs.barrier.Barrier.report.Goals as goal
 

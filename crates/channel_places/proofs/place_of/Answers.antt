@@ -1,5 +1,5 @@
-use Rattle.barrier_window.proofs.Places.{place_is, place_found}
-use Rattle.barrier_window.proofs.barrier.place_of.Goals as goal
+use Rattle.channel_places.proofs.Places.{place_is, place_found}
+use Rattle.channel_places.proofs.place_of.Goals as goal
 
 pub unreachable-requires : goal.unreachable-requires
 unreachable-requires c = place_found c.args.channels.now c.args.channel c.in-Err.field-0 c.requires.rising c.in-Err.ensures.position c.requires.among

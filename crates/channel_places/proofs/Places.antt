@@ -1,25 +1,22 @@
 -- The place of a number in a list of numbers that rise.
-use Rattle.std.proofs.Common.{ℕ, zero, suc, ◌≡◌, ◌+◌, ◌-◌, ◌<◌, ◌≤◌, ◌∙◌, ap, subst, inl, inr, List, length, get_or, Some, slice_get, Ok, Err, arith}
+use Rattle.std.proofs.Common.{ℕ, ◌≡◌, ◌<◌, ◌≤◌, ◌∙◌, ap, inl, inr, List, length, get_or, Some, slice_get, Ok, Err, arith}
 use Rattle.std.specs.List.{Contains}
 use Rattle.std.specs.List.Sorted.{IsStrictlyIncreasing, IsBinarySearchResult}
 use Rattle.std.specs.Ordering.{nat_cmp}
 use Rattle.std.proofs.lemmas.List.Sorted.{searched}
+use Rattle.std.proofs.lemmas.List.Kept.{AllPairs-from_increasing}
 use Rattle.std.proofs.lemmas.Bool.{cases_lt, cases_order}
 use Rattle.std.proofs.lemmas.Option.{slice_get-get_or, slice_get_within, get_or_from_slice_get}
 
-rises_by : (xs : List ℕ) (i n : ℕ) → IsStrictlyIncreasing xs → i + n < length xs → get_or xs i 0 + n ≤ get_or xs (i + n) 0
-rises_by xs i zero rising within = let e : i + 0 ≡ i = omega arith in rw e (omega arith)
-rises_by xs i (suc n) rising within =
-    let rest = rises_by xs i n rising (omega arith) in
-    let e : i + suc n ≡ (i + n) + 1 = omega arith in
-    let step = rising (i + n) (omega arith) in
-    rw e (omega arith)
-
-rises : (xs : List ℕ) → IsStrictlyIncreasing xs → (i j : ℕ) → i ≤ j → j < length xs → get_or xs i 0 + (j - i) ≤ get_or xs j 0
-rises xs rising i j le within = let e : i + (j - i) ≡ j = omega arith in subst (λ k. get_or xs i 0 + (j - i) ≤ get_or xs k 0) e (rises_by xs i (j - i) rising (omega arith))
+rises : (xs : List ℕ) → IsStrictlyIncreasing xs → (i j : ℕ) → i < j → j < length xs → get_or xs i 0 < get_or xs j 0
+rises xs rising i j less within = AllPairs-from_increasing xs rising i j 0 less within
 
 rises_weakly : (xs : List ℕ) → IsStrictlyIncreasing xs → (i j : ℕ) → i ≤ j → j < length xs → get_or xs i 0 ≤ get_or xs j 0
-rises_weakly xs rising i j le within = let more = rises xs rising i j le within in omega arith
+rises_weakly xs rising i j le within =
+    elim (cases_lt i j) [
+      | inl less ↦ let more = rises xs rising i j less within in omega arith
+      | inr not_less ↦ let e : i ≡ j = omega arith in rw e (omega arith)
+    ]
 
 -- what a search finds
 pub place_is : (xs : List ℕ) (x i : ℕ) → IsStrictlyIncreasing xs → IsBinarySearchResult (λ y. nat_cmp y x) xs (Ok i) → slice_get xs i ≡ Some x
@@ -34,7 +31,7 @@ place_found xs x i rising position (k, within, at) =
     let is : get_or xs k 0 ≡ x = get_or_from_slice_get xs k x 0 (slice_get-get_or xs k x within ∙ ap Some at) in
     elim (cases_lt k i) [ inl low ↦ let less = s.1 k low in omega arith | inr high ↦ let more = s.2 k high within in omega arith ]
 
--- and each number has one place
+-- each number has one place
 pub one_place : (xs : List ℕ) (x i j : ℕ) → IsStrictlyIncreasing xs → slice_get xs i ≡ Some x → slice_get xs j ≡ Some x → i ≡ j
 one_place xs x i j rising at_i at_j =
     let in_i = slice_get_within xs i x at_i in
@@ -43,7 +40,7 @@ one_place xs x i j rising at_i at_j =
     let is_j = get_or_from_slice_get xs j x 0 at_j in
     elim (cases_order i j) [
       | inl e ↦ e
-      | inr less ↦ elim less [
+      | inr differ ↦ elim differ [
         | inl low ↦ let more = rises xs rising i j (omega arith) in_j in absurd (omega arith)
         | inr high ↦ let more = rises xs rising j i (omega arith) in_i in absurd (omega arith)
       ]
