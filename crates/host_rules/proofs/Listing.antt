@@ -53,6 +53,10 @@ pub pairs_append : {A : Type 0} (R : A → A → Type 0) (xs : List A) (y : A) �
 pairs_append R [] y h k = (tt, tt)
 pairs_append R (x ∷ xs) y h k = (each_append (R x) xs (y ∷ []) h.0 (k.0, tt), pairs_append R xs y h.1 k.1)
 
+pub pairs_more : {A : Type 0} (R Q : A → A → Type 0) (xs : List A) → ((x y : A) → R x y → Q x y) → EachPair R xs → EachPair Q xs
+pairs_more R Q [] f h = tt
+pairs_more R Q (x ∷ xs) f h = (each_more (R x) (Q x) xs (f x) h.0, pairs_more R Q xs f h.1)
+
 pub pairs_map : {A : Type 0} (R : A → A → Type 0) (f : A → A) (xs : List A) → ((x y : A) → R x y → R (f x) (f y)) → EachPair R xs → EachPair R (map f xs)
 pairs_map R f [] g h = tt
 pairs_map R f (x ∷ xs) g h = (each_map (R x) (R (f x)) f xs (λ y. g x y) h.0, pairs_map R f xs g h.1)

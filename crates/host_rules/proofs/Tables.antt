@@ -16,40 +16,43 @@ use Rattle.host_rules.specs.Sending.{own_addresses}
 use Rattle.host_rules.specs.Entries.{same_sockets, found, is_accepted, changed, with_session, is_other, without, is_closed, settled}
 use Rattle.host_rules.specs.Hearing.{MostAccepted, entry_of, with_entry}
 use Rattle.host_rules.specs.Limits.{EachPair, IsKindOf, IsEntry, IsEarlier, IsStack}
-use Rattle.host_rules.proofs.Listing.{if_case, each_append, each_more, each_filter, each_among, each_both, pairs_append, pairs_map, pairs_filter, none_found, count_map, count_filter, lost_filter}
+use Rattle.host_rules.proofs.Listing.{if_case, each_append, each_more, each_filter, each_among, each_both, pairs_append, pairs_map, pairs_filter, pairs_more, none_found, count_map, count_filter, lost_filter}
 
-not_eq : (a b : ℕ) → (a ≡ b → ⊥) → nat_eq a b ≡ false
+pub not_eq : (a b : ℕ) → (a ≡ b → ⊥) → nat_eq a b ≡ false
 not_eq a b differs = elim (eqb_tells a b) [ inl e ↦ absurd (differs e.1) | inr e ↦ e.0 ]
 
 -- One session changes.
-abbrev set_if : Bool → End → EntryFields → EntryFields
+abbrev pub set_if : Bool → End → EntryFields → EntryFields
 set_if b session x = record x { session = (if b then session else x.session) }
 
-changed_same : (n : ℕ) (session : End) (x : EntryFields) → nat_eq x.number n ≡ true → changed n session x ≡ record x { session = session }
+pub changed_same : (n : ℕ) (session : End) (x : EntryFields) → nat_eq x.number n ≡ true → changed n session x ≡ record x { session = session }
 changed_same n session x e = ap (λ (b : Bool). set_if b session x) e
 
-changed_other : (n : ℕ) (session : End) (x : EntryFields) → (x.number ≡ n → ⊥) → changed n session x ≡ x
+pub changed_other : (n : ℕ) (session : End) (x : EntryFields) → (x.number ≡ n → ⊥) → changed n session x ≡ x
 changed_other n session x differs = ap (λ (b : Bool). set_if b session x) (not_eq x.number n differs)
 
-later_kept : (P : EntryFields → Type 0) (n : ℕ) (session : End) (xs : List EntryFields) → Each (λ (x : EntryFields). n < x.number) xs → Each P xs
+pub later_kept : (P : EntryFields → Type 0) (n : ℕ) (session : End) (xs : List EntryFields) → Each (λ (x : EntryFields). n < x.number) xs → Each P xs
     → Each P (map (changed n session) xs)
 later_kept P n session [] late h = tt
 later_kept P n session (x ∷ xs) late h =
     let above : n < x.number = late.0 in
     (subst P (sym (changed_other n session x (λ e. omega (arith, e, above)))) h.0, later_kept P n session xs late.1 h.1)
 
-changed_each : (P : EntryFields → Type 0) (x : EntryFields) (session : End) (xs : List EntryFields) → EachPair IsEarlier xs → Each P xs → Among x xs
+-- numbers rise
+abbrev pub Rises : EntryFields → EntryFields → Type 0
+Rises x y = x.number < y.number
+
+pub changed_each : (P : EntryFields → Type 0) (x : EntryFields) (session : End) (xs : List EntryFields) → EachPair Rises xs → Each P xs → Among x xs
     → P (record x { session = session }) → Each P (map (changed x.number session) xs)
 changed_each P x session [] order h m k = absurd m
 changed_each P x session (y ∷ ys) order h (inl e) k =
     let first : P (changed x.number session x) = subst P (sym (changed_same x.number session x (eq-eqb x.number x.number refl))) k in
     let number : x.number ≡ y.number = ap (λ (z : EntryFields). z.number) e in (
       subst (λ (z : EntryFields). P (changed x.number session z)) e first,
-      later_kept P x.number session ys (each_more (IsEarlier y) (λ (z : EntryFields). x.number < z.number) ys (λ z before. let below = before.number in omega (arith, number, below)) order.0) h.1,
+      later_kept P x.number session ys (each_more (Rises y) (λ (z : EntryFields). x.number < z.number) ys (λ z below. omega (arith, number, below)) order.0) h.1,
     )
 changed_each P x session (y ∷ ys) order h (inr m) k =
-    let before = each_among (IsEarlier y) ys x order.0 m in
-    let below : y.number < x.number = before.number in
+    let below : y.number < x.number = each_among (Rises y) ys x order.0 m in
     (subst P (sym (changed_other x.number session y (λ e. omega (arith, e, below)))) h.0, changed_each P x session ys order.1 h.1 m k)
 
 earlier_changed : (n : ℕ) (session : End) (x y : EntryFields) → IsEarlier x y → IsEarlier (changed n session x) (changed n session y)
@@ -69,7 +72,7 @@ changed_stack rows s x session is m end kind running =
       given = is.given;
       left = is.left;
       opened = is.opened;
-      entries = changed_each (IsEntry rows s.opened s.made) x session s.sessions is.order is.entries m
+      entries = changed_each (IsEntry rows s.opened s.made) x session s.sessions (pairs_more IsEarlier Rises s.sessions (λ y z before. before.number) is.order) is.entries m
           (record { number = was.number; ranges = end; running = running; kind = kind; own = was.own; client = was.client; own_port = was.own_port });
       order = pairs_map IsEarlier (changed x.number session) s.sessions (earlier_changed x.number session) is.order;
       accepted = omega (arith, count, accepted);

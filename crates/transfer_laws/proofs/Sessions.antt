@@ -1,9 +1,7 @@
 -- What an action of a host makes of each of its sessions: a property that turns keep holds on.
-use Rattle.std.proofs.Common.{◌≡◌, ℕ, ◌+◌, ◌-◌, ◌<◌, min, Bool, true, false, ◌&&◌, cond, Option, Some, None, List, [], ◌∷◌, map, nat_eq, refl, ap, subst, sym, ◌∙◌, inl, inr, arith, if◌then◌else◌}
+use Rattle.std.proofs.Common.{◌≡◌, ℕ, ◌+◌, ◌-◌, ◌<◌, min, Bool, true, false, ◌&&◌, cond, Option, Some, None, List, [], ◌∷◌, nat_eq, refl, subst, sym, ◌∙◌, arith}
 use Rattle.std.specs.Prelude.{slice_get, slice_index, nat_lt}
 use Rattle.std.specs.List.{find}
-use Rattle.std.proofs.lemmas.Bool.{eq-eqb}
-use Rattle.std.proofs.lemmas.Bool.Decides.{eqb_tells}
 use Rattle.event_order.specs.Pending.{Among}
 use Rattle.sim_base.specs.SegmentFields.{SegmentFields}
 use Rattle.sim_base.specs.declared.records.ClientRow.{ClientRow}
@@ -37,10 +35,8 @@ use Rattle.host_rules.specs.Entries.{same_sockets, found, numbered, is_due, due,
 use Rattle.host_rules.specs.Hearing.{entry_of, with_entry, with_transfer, transfer_sockets, opening_to, next_transfer, next_of, next_after, turned, listens_on, udp_arrived, may_accept, sockets_of, tcp_arrived_at, tcp_arrived, at_home, at_verdict, arrived, timed_out_at, timed_out, all_timed_out}
 use Rattle.host_rules.specs.Reacting.{Role, Receiver, Clock, Client, roles, is_same_tick, poke_unless, with_poke, heard, receiver_reply, ticked, clock_effect, left_of, with_left, refilled_by, refilled, datagram, present_server, datagram_to, datagram_sent, udp_turn, tcp_turn, udp_sent, client_turn, client_reply, role_reply, reply_of, host_reaction}
 use Rattle.host_rules.specs.Limits.{EachPair}
+use Rattle.host_rules.proofs.Tables.{Rises, changed_each}
 use Rattle.host_rules.proofs.Listing.{if_case, each_append, each_more, each_map, each_filter, each_among, found_among, pairs_append, pairs_map, pairs_filter}
-
-abbrev Rises : EntryFields → EntryFields → Type 0
-Rises x y = x.number < y.number
 
 -- the sessions have rising numbers, which were given, and P holds of each
 pub record IsHeld (P : EntryFields → Type 0) (s : Stack) : Type 0 where
@@ -136,40 +132,6 @@ found_is sockets xs x e =
 numbered_is : (number : ℕ) (xs : List EntryFields) (x : EntryFields) → numbered number xs ≡ Some x → Among x xs
 unfolding numbered
 numbered_is number xs x e = found_among (λ (y : EntryFields). nat_eq y.number number) xs x e
-
--- ---- one session changes
-
-not_eq : (a b : ℕ) → (a ≡ b → ⊥) → nat_eq a b ≡ false
-not_eq a b differs = elim (eqb_tells a b) [ inl e ↦ absurd (differs e.1) | inr e ↦ e.0 ]
-
-abbrev set_if : Bool → End → EntryFields → EntryFields
-set_if b session x = record x { session = (if b then session else x.session) }
-
-changed_same : (n : ℕ) (session : End) (x : EntryFields) → nat_eq x.number n ≡ true → changed n session x ≡ record x { session = session }
-changed_same n session x e = ap (λ (b : Bool). set_if b session x) e
-
-changed_other : (n : ℕ) (session : End) (x : EntryFields) → (x.number ≡ n → ⊥) → changed n session x ≡ x
-changed_other n session x differs = ap (λ (b : Bool). set_if b session x) (not_eq x.number n differs)
-
-later_kept : (P : EntryFields → Type 0) (n : ℕ) (session : End) (xs : List EntryFields) → Each (λ (x : EntryFields). n < x.number) xs → Each P xs
-    → Each P (map (changed n session) xs)
-later_kept P n session [] late h = tt
-later_kept P n session (x ∷ xs) late h =
-    let above : n < x.number = late.0 in
-    (subst P (sym (changed_other n session x (λ e. omega (arith, e, above)))) h.0, later_kept P n session xs late.1 h.1)
-
-changed_each : (P : EntryFields → Type 0) (x : EntryFields) (session : End) (xs : List EntryFields) → EachPair Rises xs → Each P xs → Among x xs
-    → P (record x { session = session }) → Each P (map (changed x.number session) xs)
-changed_each P x session [] order h m k = absurd m
-changed_each P x session (y ∷ ys) order h (inl e) k =
-    let first : P (changed x.number session x) = subst P (sym (changed_same x.number session x (eq-eqb x.number x.number refl))) k in
-    let number : x.number ≡ y.number = ap (λ (z : EntryFields). z.number) e in (
-      subst (λ (z : EntryFields). P (changed x.number session z)) e first,
-      later_kept P x.number session ys (each_more (Rises y) (λ (z : EntryFields). x.number < z.number) ys (λ z below. omega (arith, number, below)) order.0) h.1,
-    )
-changed_each P x session (y ∷ ys) order h (inr m) k =
-    let below : y.number < x.number = each_among (Rises y) ys x order.0 m in
-    (subst P (sym (changed_other x.number session y (λ e. omega (arith, e, below)))) h.0, changed_each P x session ys order.1 h.1 m k)
 
 -- ---- a property that turns keep
 
