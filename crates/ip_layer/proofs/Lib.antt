@@ -1,2 +1,2 @@
 pub mod Best
-mod Leaving
+pub mod Leaving

@@ -13,7 +13,7 @@ mod packet;
 mod verdict;
 
 pub use packet::Packet;
-pub use verdict::{Verdict, receive, send};
+pub use verdict::{Verdict, best_place, receive, send};
 
 #[cfg(test)]
 mod tests;

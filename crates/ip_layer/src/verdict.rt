@@ -47,8 +47,9 @@ pub fn send(own: &[u32], routes: &[Route], packet: &Packet) -> Verdict
     }
 }
 
-/// The place of the best route to an address.
-fn best_place(routes: &[Route], address: u32) -> Option<usize>
+/// The place of the best route to an address: the one with the longest block that holds it, the first
+/// of equals; none where no block holds it.
+pub fn best_place(routes: &[Route], address: u32) -> Option<usize>
     ensures { result ≡ best_route routes.now address }
 {
     best(routes, address)

@@ -1,5 +1,5 @@
 -- The table of a host's TCP sessions: a list in order of creation.
-use Rattle.std.specs.Prelude.{ℕ, ◌≡◌, Bool, true, false, ◌&&◌, not, nat_eq, nat_lt, List, [], ◌∷◌, Option, Some, None, is_none, min, if◌then◌else◌}
+use Rattle.std.specs.Prelude.{ℕ, ◌≡◌, Bool, true, false, ◌&&◌, not, nat_eq, nat_le, nat_lt, List, [], ◌∷◌, Option, Some, None, is_none, map, min, if◌then◌else◌}
 use Rattle.std.specs.List.{filter, find}
 use Rattle.std.specs.Option.{option_map, option_or}
 use Rattle.session_table.specs.declared.entry.Sockets.{Sockets}
@@ -13,6 +13,11 @@ abbrev pub earlier : Option ℕ → Option ℕ → Option ℕ
 earlier None b = b
 earlier (Some a) None = Some a
 earlier (Some a) (Some b) = Some (min a b)
+
+-- a deadline is at most now
+abbrev pub has_passed : (now : ℕ) → Option ℕ → Bool
+has_passed now None = false
+has_passed now (Some deadline) = nat_le deadline now
 
 module _ {S : Type 0} where
   -- a session was accepted, and not opened by the host
@@ -45,6 +50,10 @@ module _ {S : Type 0} where
   abbrev pub least : List (Entry S) → Option ℕ
   least [] = None
   least (x ∷ xs) = earlier x.deadline (least xs)
+
+  -- the numbers of the sessions whose deadline is at most now, in their order
+  abbrev pub due : (now : ℕ) → List (Entry S) → List ℕ
+  due now entries = map (λ (x : Entry S). x.number) (filter (λ (x : Entry S). has_passed now x.deadline) entries)
 
   -- with one session more, in its place by numbers
   abbrev pub placed : Entry S → List (Entry S) → List (Entry S)

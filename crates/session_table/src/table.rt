@@ -5,7 +5,7 @@ ghost use Rattle.std.specs.HashMap.{get};
 ghost use Rattle.std.specs.BTreeSet.{contains};
 ghost use Rattle.session_table.specs.declared.entry.Sockets.{Sockets as SocketsValue};
 ghost use Rattle.session_table.specs.declared.table.Deadline.{Deadline as DeadlineValue};
-ghost use Rattle.session_table.specs.Entries.{same_sockets, accepts_at, opens_at};
+ghost use Rattle.session_table.specs.Entries.{same_sockets, accepts_at, opens_at, has_passed};
 ghost use Rattle.session_table.specs.Indexes.{deadline_cmp, is_due_at};
 
 use crate::{Entry, Sockets};
@@ -103,9 +103,19 @@ fn forget_deadline<S>(deadlines: &mut BTreeSet<Deadline>, entry: &Entry<S>)
     }
 }
 
+/// Whether this deadline is at most `now`.
+fn has_passed(deadline: Option<u64>, now: u64) -> bool
+    ensures { result ≡ has_passed now deadline }
+{
+    match deadline {
+        Some(deadline) => deadline <= now,
+        None => false,
+    }
+}
+
 impl<S: Drop> SessionTable<S> {
-    ghost use Rattle.std.specs.Prelude.{◌≡◌, [], Some, IsSome, OnOk, OnErr, IfErr, MatchOption, None};
-    ghost use Rattle.session_table.specs.Entries.{numbered, found, least, placed, without, IsNew};
+    ghost use Rattle.std.specs.Prelude.{◌≡◌, [], Some, IsSome, IfOk, OnOk, OnErr, IfErr, MatchOption, None};
+    ghost use Rattle.session_table.specs.Entries.{numbered, found, least, due, placed, without, IsNew};
 
     /// An empty table, which has taken no memory.
     pub fn new(alloc: Global) -> SessionTable<S>
@@ -144,6 +154,21 @@ impl<S: Drop> SessionTable<S> {
             Some(deadline) => Some(deadline.at),
             None => None,
         }
+    }
+
+    /// The numbers of the sessions whose deadline is at most `now`, in their order.
+    ///
+    /// # Errors
+    /// `Memory`.
+    pub fn due(&self, alloc: Global, now: u64) -> Result<Vec<u64>, Memory>
+        ensures { IfOk result (λ numbers. numbers.items ≡ due now self.now) }
+    {
+        Ok(self
+            .entries
+            .values()
+            .filter(|entry| has_passed(entry.deadline, now))
+            .map(|entry| entry.number)
+            .collect(alloc)?)
     }
 
     /// Puts a session into the table, in its place by numbers.

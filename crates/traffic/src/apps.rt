@@ -43,6 +43,14 @@ impl Apps {
         let _sessions = self.given.len();
     }
 
+    /// How many servers this client session was given.
+    pub fn given(&self, client: u32) -> usize
+        requires { client < length self.now.given }
+        ensures { result ≡ slice_index self.now.given client }
+    {
+        self.given[client as usize]
+    }
+
     /// The server that this client session goes to next, each in its order. `None` exactly where it
     /// was given all of them, and then nothing changes.
     #[tactic(auto, unfolding(crate::specs::Progress::next_server, crate::specs::Progress::after_next))]

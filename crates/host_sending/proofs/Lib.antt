@@ -1,0 +1,3 @@
+pub mod Looping
+pub mod Reaching
+pub mod Routing
