@@ -1,11 +1,10 @@
 -- A timeline at first, and the part that it gives back.
 use Rattle.std.specs.Prelude.{ℕ, ◌≡◌, ◌+◌, false, List, [], map}
-use Rattle.event_order.specs.Pending.{IsApart, put_all}
+use Rattle.event_order.specs.Pending.{put_all}
 use Rattle.ssf_model.specs.declared.event.Event.{Event}
 use Rattle.ssf_model.specs.declared.plan.Mapping.{Mapping}
 use Rattle.timeline_parts.specs.declared.ends.InEnd.{InEnd}
 use Rattle.timeline_parts.specs.declared.ends.OutEnd.{OutEnd}
-use Rattle.timeline_parts.specs.Tables.{AreRising, AreNumbered}
 use Rattle.timeline_parts.specs.declared.part.Cross.{Cross}
 use Rattle.timeline_parts.specs.declared.part.Part.{Part}
 use Rattle.timeline.specs.View.{TimelineOf, key_of, routes_by}
