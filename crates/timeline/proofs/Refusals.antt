@@ -1,19 +1,17 @@
 -- Why the next event is not executed.
-use Rattle.std.proofs.Common.{◌≡◌, ℕ, ◌<◌, ◌≤◌, true, false, nat_le, nat_lt, List, [], ◌∷◌, refl, sym, ap, ◌∙◌, subst, inl, inr, arith, Some, None}
+use Rattle.std.proofs.Common.{◌≡◌, ℕ, ◌<◌, ◌≤◌, true, false, nat_le, nat_lt, List, [], ◌∷◌, refl, ap, ◌∙◌, subst, inl, inr, arith, Some, None}
 use Rattle.std.proofs.lemmas.Grind.{common_steps}
 use Rattle.event_order.specs.Machine.{due}
 use Rattle.event_order.proofs.Pending.{test_cases}
+use Rattle.event_order.proofs.Steps.{le_true}
 use Rattle.ssf_model.specs.declared.event.Event.{Event}
 use Rattle.timeline.specs.declared.answers.Ran.TheVariants.{Idle, Spent}
 use Rattle.timeline.specs.View.{TimelineOf, key_of}
 use Rattle.timeline.specs.Holding.{bound_in, is_free}
 use Rattle.timeline.specs.Executing.{refusal}
 
-lt_true : (a b : ℕ) → a < b → nat_lt a b ≡ true
+pub lt_true : (a b : ℕ) → a < b → nat_lt a b ≡ true
 lt_true a b h = grind (arith, common_steps)
-
-le_true : (a b : ℕ) → nat_le a b ≡ true → a ≤ b
-le_true a b h = grind (arith, common_steps)
 
 module _ {P : Type 0} where
   -- the event that is due is the first, and in time
