@@ -54,7 +54,7 @@ use Rattle.timeline.specs.Lines.{line_of, IsPlacedIn}
 use Rattle.timeline.specs.Sound.{HasNext, IsSoundTimeline, IsRunOnLines}
 use Rattle.timeline.proofs.Kept.{filled_put}
 use Rattle.timeline.proofs.TellsBounds.{bound_is, low_is, number_among, item_among}
-use Rattle.timeline.proofs.Free.{IsFree, free_of, next_of, free_again, over_is}
+use Rattle.timeline.proofs.Free.{IsFree, free_of, next_of, free_again, over_is, over_again}
 use Rattle.timeline.proofs.Channels.{on, AreSameOn, numbered_same, numbered_apart, numbered_count, count_after, end_after, with_all, same_back}
 use Rattle.timeline.proofs.Sends.{routes_same, sends_same}
 use Rattle.timeline.proofs.Steps.{new_writes, executed_as}
@@ -139,6 +139,9 @@ module _ {B S P : Type 0} (r : Reaction S P) (valid : Validity S) (carried : P �
     unfolding machine_of
     is_over_here over = (let q = over_is t over in let end = sound.until in
         record { head = q.0.event; rest = q.0.rest; is = q.0.is; in_time = omega (arith, q.0.in_time, end); below = omega (arith, q.0.below, bound_same); spent = q.1 })
+
+    pub is_over_if : IsOver s t.budget i (line_of m t) → is_over t ≡ true
+    is_over_if over = over_again t (has_next over.head over.rest over.is over.in_time over.below) over.spent
 
     -- an entry of the history is that of an event that was executed
     pub record IsOfEvent (x : Entry) : Type 0 where

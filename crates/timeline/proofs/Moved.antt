@@ -1,13 +1,12 @@
 -- What a sound timeline takes in and hands out, and how it goes on to a later window: it stays sound.
-use Rattle.std.proofs.Common.{◌≡◌, ℕ, ◌+◌, ◌<◌, ◌≤◌, Bool, true, false, cond, nat_eq, nat_le, nat_lt, ◌&&◌, min, List, [], ◌∷◌, ◌++◌, length, slice_index, refl, sym, ap, ◌∙◌, subst, inl, inr, arith, Option, Some, None, option_map, unwrap_or}
+use Rattle.std.proofs.Common.{◌≡◌, ℕ, ◌+◌, ◌<◌, ◌≤◌, Bool, true, false, cond, nat_eq, nat_le, nat_lt, min, List, [], ◌∷◌, ◌++◌, length, slice_index, refl, sym, ap, ◌∙◌, subst, inl, inr, arith, Option, Some, None, option_map, unwrap_or}
 use Rattle.std.specs.List.{filter}
-use Rattle.std.proofs.lemmas.Grind.{common_steps}
 use Rattle.event_order.specs.declared.key.Key.{Key}
 use Rattle.event_order.specs.Order.{comes_before, IsBefore}
 use Rattle.event_order.specs.Pending.{Among, IsRising, put, put_all}
 use Rattle.event_order.proofs.Order.{before_asym, before_time, earlier}
 use Rattle.event_order.proofs.Pending.{test_cases}
-use Rattle.event_order.proofs.Steps.{le_true, le_false}
+use Rattle.event_order.proofs.Steps.{le_true, le_test, le_false}
 use Rattle.ssf_model.specs.declared.event.Event.{Event}
 use Rattle.ssf_model.specs.declared.event.Entry.{Entry}
 use Rattle.ssf_model.specs.declared.event.Parcel.{Parcel}
@@ -36,9 +35,10 @@ use Rattle.timeline.specs.Executing.{refusal, spent_of}
 use Rattle.timeline.specs.Moving.{taken_end, posted_end, IsTaken, can_enter, entered_at, IsHandedOut, without}
 use Rattle.timeline.specs.Lines.{line_of, mail_of, posted_of, outbox_of, IsPlacedIn}
 use Rattle.timeline.specs.Sound.{CountsAt, HasNext, IsSoundTimeline}
-use Rattle.timeline.proofs.TellsBounds.{item_among, bound_is, low_is}
+use Rattle.timeline.proofs.TellsBounds.{number_among, among_item, item_among, bound_is, low_is}
 use Rattle.timeline.proofs.Kept.{filled_posted}
-use Rattle.timeline.proofs.Free.{next_of}
+use Rattle.timeline.proofs.Free.{both, less_of, next_of}
+use Rattle.timeline.proofs.Refusals.{lt_true}
 use Rattle.timeline.proofs.Lined.{taken_as, posted_as, entered_as}
 
 -- ---- lists
@@ -88,19 +88,6 @@ append_same : {T : Type 0} (xs ys zs : List T) → (xs ++ ys) ++ zs ≡ xs ++ (y
 append_same [] ys zs = refl
 append_same (x ∷ xs) ys zs = ap (λ ws. x ∷ ws) (append_same xs ys zs)
 
-both : (a b : Bool) → (a && b) ≡ true → (a ≡ true) × (b ≡ true)
-both true b h = (refl, h)
-both false b h = absurd (cc)
-
-less_of : (a b : ℕ) → nat_lt a b ≡ true → a < b
-less_of a b h = grind (arith, common_steps)
-
-less_test : (a b : ℕ) → a < b → nat_lt a b ≡ true
-less_test a b h = grind (arith, common_steps)
-
-upto_test : (a b : ℕ) → a ≤ b → nat_le a b ≡ true
-upto_test a b h = grind (arith, common_steps)
-
 taken_each : (ends : List (ℕ × InEnd)) (counts : List ℕ) → has_taken ends counts ≡ true → (x : ℕ × InEnd) → Among x ends → slice_index counts x.1.place ≤ x.1.taken
 taken_each [] counts h x a = absurd a
 taken_each (e ∷ es) counts h x (inl same) =
@@ -111,7 +98,7 @@ taken_each (e ∷ es) counts h x (inr a) = taken_each es counts (both _ _ h).1 x
 taken_all : (ends : List (ℕ × InEnd)) (counts : List ℕ) → ((x : ℕ × InEnd) → Among x ends → slice_index counts x.1.place ≤ x.1.taken) → has_taken ends counts ≡ true
 taken_all [] counts all = refl
 taken_all (e ∷ es) counts all =
-    let first = upto_test (slice_index counts e.1.place) e.1.taken (all e (inl refl)) in
+    let first = le_test (slice_index counts e.1.place) e.1.taken (all e (inl refl)) in
     let rest = taken_all es counts (λ x a. all x (inr a)) in
     rw (first, rest) refl
 
@@ -236,6 +223,16 @@ module _ {B S P : Type 0} (plan : Plan B S P) (line : ℕ → ℕ) (s : Scene (S
   may_enter counts b at can =
       let two = both _ _ can in
       record { later = less_of t.entered b.window two.0; taken = enough_taken counts b.counts at two.1 }
+
+  -- it may enter where the rules let it
+  pub enters_if_may : (counts : List ℕ) (b : BarrierOf) → CountsAt t.in_ends counts b.counts → CanEnter s.net i (line_of m t) b → can_enter t b.window counts ≡ true
+  enters_if_may counts b at may =
+      let all : has_taken t.in_ends counts ≡ true = taken_all t.in_ends counts (λ x a. (
+      let here = among_item x t.in_ends sound.order.in_ends a in
+      let enough : b.counts x.0 ≤ taken_of t.in_ends x.0 = may.taken x.0 (sound.placed.into x.0 (number_among x t.in_ends a)) in
+      omega (arith, enough, at x.0 x.1 here, taken_at x.0 x.1 here))) in
+      let later : nat_lt t.entered b.window ≡ true = lt_true t.entered b.window may.later in
+      rw (later, all) refl
 
   pub enters_line : (window : ℕ) → line_of m (entered_at window t) ≡ entered_line s window (line_of m t)
   enters_line window = entered_as s m t window (sym sound.until)

@@ -3,17 +3,15 @@ use Rattle.std.proofs.Common.{◌≡◌, ℕ, ◌<◌, ◌≤◌, true, false, n
 use Rattle.std.proofs.lemmas.Grind.{common_steps}
 use Rattle.event_order.specs.Machine.{due}
 use Rattle.event_order.proofs.Pending.{test_cases}
+use Rattle.event_order.proofs.Steps.{le_true}
 use Rattle.ssf_model.specs.declared.event.Event.{Event}
 use Rattle.timeline.specs.declared.answers.Ran.TheVariants.{Idle, Spent}
 use Rattle.timeline.specs.View.{TimelineOf, key_of}
 use Rattle.timeline.specs.Holding.{bound_in, is_free}
 use Rattle.timeline.specs.Executing.{refusal}
 
-lt_true : (a b : ℕ) → a < b → nat_lt a b ≡ true
+pub lt_true : (a b : ℕ) → a < b → nat_lt a b ≡ true
 lt_true a b h = grind (arith, common_steps)
-
-le_true : (a b : ℕ) → nat_le a b ≡ true → a ≤ b
-le_true a b h = grind (arith, common_steps)
 
 module _ {P : Type 0} where
   -- the event that is due is the first, and in time

@@ -70,6 +70,6 @@ module _ {B S P : Type 0} where
       history = t.history ++ entry_by r event (Some entity) ∷ [];
     }
 
-  -- there was no memory for it: nothing but its entities has changed, and it is spent
+  -- there was no memory for it: nothing but its entities and the room for events has changed, and it is spent
   abbrev pub spent_of : TimelineOf B S P → TimelineOf B S P → TimelineOf B S P
   spent_of t after = record t { entities = after.entities; spare = after.spare; spent = true }

@@ -5,7 +5,9 @@ use event_order::Key;
 /// What holds a timeline at its bound: the appointment of a channel, or the window that it entered.
 #[derive(Clone, Copy, Debug, PartialEq, Eq)]
 pub enum Holder {
+    /// The channel with this number, the first of those with this appointment.
     Channel(u32),
+    /// The window.
     Window,
 }
 

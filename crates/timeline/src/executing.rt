@@ -32,7 +32,8 @@ impl<B: Behaviour> Timeline<B> {
     /// Executes the first pending event, if it is in time, before the bound and within the budget,
     /// and else answers why not, by the first of these causes: the timeline is spent, no event is in
     /// time, the next event is not before the bound, the budget is spent. After `Memory` the timeline
-    /// is spent: the event stays the first, and nothing but the entities has changed.
+    /// is spent: the event stays the first, and nothing but the entities and the room for events has
+    /// changed.
     pub fn execute(&mut self, behaviour: &B) -> Result<Ran, Memory>
         requires { (event : EventValue B.Payload) (rest : List (EventValue B.Payload)) → self.old.pending ≡ event ∷ rest → refusal self.old ≡ None → MayRun (B.valid behaviour.now) (B.reaction behaviour.now) self.old event rest }
         ensures refused { (told : RanValue) → refusal self.old ≡ Some told → (result ≡ Ok told) × (self.new ≡ self.old) }

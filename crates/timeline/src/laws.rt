@@ -28,7 +28,8 @@ ghost use Rattle.timeline.specs.Sound.{CountsAt, IsSoundTimeline, IsRunOnLines, 
 use ssf_model::Behaviour;
 
 /// What a timeline tells of its bound, its lower bound and its least time ahead is what the rules tell
-/// of its view.
+/// of its view. A spent timeline stays at the event that it could not execute: its lower bound is that
+/// event's time (`spent`).
 pub fn timelines_tell_their_bounds<B: Behaviour>()
     ensures bound { (b : B) → OfEachSoundTimeline {B = B} (B.valid b) (B.carried b) (B.reaction b) (λ plan line s i m t.
         bound_in t ≡ bound_of s.net i (line_of m t)) }
@@ -36,6 +37,8 @@ pub fn timelines_tell_their_bounds<B: Behaviour>()
         low_in t ≡ low_of s i (line_of m t)) }
     ensures ahead { (b : B) → OfEachSoundTimeline {B = B} (B.valid b) (B.carried b) (B.reaction b) (λ plan line s i m t.
         ahead_in t ≡ least_ahead_of s (line_of m t)) }
+    ensures spent { (b : B) → OfEachSoundTimeline {B = B} (B.valid b) (B.carried b) (B.reaction b) (λ plan line s i m t.
+        (event : Event B.Payload) (rest : List (Event B.Payload)) → t.spent ≡ true → t.pending ≡ event ∷ rest → low_in t ≡ event.key.time) }
 {}
 
 /// Taking in a true parcel, which begins where the timeline has taken up to, is the step that takes
@@ -63,8 +66,9 @@ pub fn taking_is_the_step<B: Behaviour>()
         → low_in t ≤ low_in after) }
 {}
 
-/// Entering a window is the step that enters it (`line`), and the timeline may enter the window of a
-/// barrier, whose counts stand at the places of its channels (`may`). It stays sound: in the window of a
+/// Entering a window is the step that enters it (`line`), and the timeline enters the window of a
+/// barrier, whose counts stand at the places of its channels, just where the rules let it (`may`,
+/// `enters`). It stays sound: in the window of a
 /// sound barrier, where it has executed its events before the window before that (`barrier`), and in any
 /// window `x` of the run, where the counts are those of the writes by the events before the window `v`
 /// before it, and the timeline has executed its own events before `v` (`window`). The lower bound does
@@ -75,6 +79,9 @@ pub fn entering_is_the_step<B: Behaviour>()
     ensures may { (b : B) → OfEachSoundTimeline {B = B} (B.valid b) (B.carried b) (B.reaction b) (λ plan line s i m t.
         (barrier : BarrierOf) (counts : List ℕ) → CountsAt t.in_ends counts barrier.counts → can_enter t barrier.window counts ≡ true
         → CanEnter s.net i (line_of m t) barrier) }
+    ensures enters { (b : B) → OfEachSoundTimeline {B = B} (B.valid b) (B.carried b) (B.reaction b) (λ plan line s i m t.
+        (barrier : BarrierOf) (counts : List ℕ) → CountsAt t.in_ends counts barrier.counts → CanEnter s.net i (line_of m t) barrier
+        → can_enter t barrier.window counts ≡ true) }
     ensures barrier { (b : B) → OfEachSoundTimeline {B = B} (B.valid b) (B.carried b) (B.reaction b) (λ plan line s i m t.
         (v : ℕ) (barrier : BarrierOf) (counts : List ℕ) → IsSoundBarrier s v barrier → CountsAt t.in_ends counts barrier.counts
         → can_enter t barrier.window counts ≡ true → HasDone s i v (line_of m t) → IsSoundTimeline plan line s i m (entered_at barrier.window t)) }
@@ -129,7 +136,7 @@ pub fn other_calls_keep_sound<B: Behaviour>()
 {}
 
 /// The rules let a sound timeline execute its next event just where it is not refused (`execute`,
-/// `executes`), and it is over where it tells so (`over`).
+/// `executes`), and it is over just where it tells so (`over`, `is_over`).
 pub fn timelines_may_as_the_rules_say<B: Behaviour>()
     ensures execute { (b : B) → OfEachSoundTimeline {B = B} (B.valid b) (B.carried b) (B.reaction b) (λ plan line s i m t.
         refusal t ≡ None → CanExecute s t.budget i (line_of m t)) }
@@ -137,6 +144,8 @@ pub fn timelines_may_as_the_rules_say<B: Behaviour>()
         CanExecute s t.budget i (line_of m t) → t.spent ≡ false → refusal t ≡ None) }
     ensures over { (b : B) → OfEachSoundTimeline {B = B} (B.valid b) (B.carried b) (B.reaction b) (λ plan line s i m t.
         is_over t ≡ true → IsOver s t.budget i (line_of m t)) }
+    ensures is_over { (b : B) → OfEachSoundTimeline {B = B} (B.valid b) (B.carried b) (B.reaction b) (λ plan line s i m t.
+        IsOver s t.budget i (line_of m t) → is_over t ≡ true) }
 {}
 
 /// A sound timeline whose next event is not refused executes the next event that the run has on it

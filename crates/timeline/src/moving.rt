@@ -68,8 +68,9 @@ impl<B: Behaviour> Timeline<B> {
         Ok(())
     }
 
-    /// Enters a window, if it is a later one and as much was taken from each channel as the
-    /// barrier's counts say, which stand at the channels' places, and answers whether it did.
+    /// Enters a window, in ticks, if it is a later one and as much was taken from each channel as the
+    /// barrier's counts say, which stand at the channels' places, and answers whether it did. If not,
+    /// nothing has changed.
     pub fn enter(&mut self, window: u64, counts: &[u64]) -> bool
         ensures cause { result ≡ can_enter self.old window counts.now }
         ensures entered { self.new ≡ (if result then entered_at window self.old else self.old) }

@@ -74,7 +74,7 @@ impl<B: Behaviour> Timeline<B> {
         self.spent
     }
 
-    /// The window that was last entered.
+    /// The window that was last entered, in ticks, and 0 at first.
     pub fn entered(&self) -> u64
         ensures { result ≡ self.now.entered }
     {
@@ -118,15 +118,15 @@ impl<B: Behaviour> Timeline<B> {
         (self.bound, self.holder)
     }
 
-    /// The least of the bound and the time of the first pending event.
+    /// The least of the bound and the time of the first pending event, in ticks.
     pub fn lower_bound(&self) -> u64
         ensures { result ≡ low_in self.now }
     {
         head_time_of(&self.pending, self.bound)
     }
 
-    /// The least time of what is pending, and of what was written to other timelines since the
-    /// window was entered and arrives from this window on; at most a tick after the end.
+    /// The least time, in ticks, of what is pending, and of what was written to other timelines since
+    /// the window was entered and arrives from this window on; at most a tick after the end.
     pub fn least_ahead(&self) -> u64
         ensures { result ≡ ahead_in self.now }
     {
@@ -179,7 +179,8 @@ impl<B: Behaviour> Timeline<B> {
         }
     }
 
-    /// The appointment that is held on an appointed channel that comes from another timeline.
+    /// The appointment, in ticks, that is held on an appointed channel that comes from another
+    /// timeline.
     pub fn appointment(&self, channel: u32) -> u64
         requires { Among channel (numbers_of self.now.in_ends) }
         ensures { result ≡ held_of self.now.in_ends channel }
