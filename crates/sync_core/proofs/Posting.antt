@@ -1,23 +1,21 @@
 -- What is handed out and posted.
-use Rattle.std.proofs.Common.{◌≡◌, ℕ, zero, suc, ◌+◌, ◌<◌, ◌≤◌, Bool, true, false, cond, nat_eq, nat_lt, ◌||◌, List, [], ◌∷◌, ◌++◌, length, refl, sym, ap, ◌∙◌, subst, inl, inr, arith, lt-ltb, le-ltb, eqb-true, Option, Some, None, option_map, unwrap_or, Result, Ok, Err}
+use Rattle.std.proofs.Common.{◌≡◌, ℕ, zero, suc, ◌+◌, Bool, true, false, nat_eq, nat_lt, ◌||◌, List, [], ◌∷◌, length, refl, ap, ◌∙◌, subst, inl, inr, arith, lt-ltb, eqb-true, Some}
 use Rattle.event_order.specs.Pending.{Among}
 use Rattle.event_order.proofs.Pending.{test_cases}
 use Rattle.ssf_model.specs.declared.event.Event.{Event}
 use Rattle.ssf_model.specs.declared.event.Parcel.{Parcel}
 use Rattle.ssf_model.specs.Reaction.{Each}
 use Rattle.timeline_parts.specs.declared.ends.OutEnd.{OutEnd}
-use Rattle.timeline_parts.specs.Tables.{numbers_of, AreNumbered, AreRising, item_at, changed}
+use Rattle.timeline_parts.specs.Tables.{numbers_of, AreNumbered, item_at, changed}
 use Rattle.timeline_parts.specs.Sending.{written_of}
 use Rattle.timeline_parts.proofs.Tables.{known_item, changed_none}
 use Rattle.timeline.specs.View.{TimelineOf}
 use Rattle.timeline.specs.Holding.{IsInOrder, IsFilled, low_in}
 use Rattle.timeline.specs.Moving.{IsHandedOut, posted_end, parcel_of}
 use Rattle.timeline.specs.Lines.{posted_of, outbox_of}
-use Rattle.appointments.specs.Mails.{ChannelMail, Mails, mail_at, posted_of as posted_to}
-use Rattle.appointments.specs.Posts.{posted_mail}
-use Rattle.sync_core.specs.declared.steps.Stepped.{Stepped}
-use Rattle.sync_core.specs.declared.steps.Stepped.TheVariants.{Did, NotEnabled}
-use Rattle.sync_core.specs.Between.{stepped, promised_by, promise_in, can_post, parcel_in, posted_timeline, IsPostedTo}
+use Rattle.appointments.specs.Mails.{ChannelMail}
+use Rattle.sync_core.specs.declared.steps.Stepped.TheVariants.{Did}
+use Rattle.sync_core.specs.Between.{stepped, promise_in, can_post, parcel_in, posted_timeline}
 
 -- ---- answers
 
@@ -89,16 +87,3 @@ module _ {B S P : Type 0} where
   pub news_is : (t : TimelineOf B S P) (c : ℕ) (parcel : Parcel P) (appointment : ℕ) (mail : ChannelMail P) → parcel ≡ parcel_in t c → appointment ≡ mail.appointment
       → (nat_lt 0 (length parcel.events) || nat_lt appointment parcel.promise) ≡ can_post t c mail
   news_is t c parcel appointment mail is e = rw (is, e) refl
-
-  -- the mail after room was made for a post
-  pub post_after_room : (c : ℕ) (t after : TimelineOf B S P) (mail mid mail_after : Mails P) → mid.channels ≡ mail.channels → mail_at mid c ≡ record (mail_at mail c) { spare = (mail_at mid c).spare }
-      → ((k : ℕ) → (k ≡ c → ⊥) → mail_at mid k ≡ mail_at mail k) → IsPostedTo c t after mid mail_after → IsPostedTo c t after mail mail_after
-  post_after_room c t after mail mid mail_after channels room others q = record {
-    timeline = q.timeline;
-    channels = q.channels ∙ channels;
-    row = q.row ∙ ap (λ (m : ChannelMail P). posted_mail (parcel_in t c) (mail_at mail_after c).spare m) room;
-    others = λ k differ. q.others k differ ∙ others k differ;
-  }
-
-  pub can_post_same : (t : TimelineOf B S P) (c : ℕ) (mail mid : ChannelMail P) → mid ≡ record mail { spare = mid.spare } → can_post t c mid ≡ can_post t c mail
-  can_post_same t c mail mid e = ap (λ (m : ChannelMail P). can_post t c m) e

@@ -1,5 +1,5 @@
 -- What is reported.
-use Rattle.std.proofs.Common.{◌≡◌, ℕ, zero, suc, ◌<◌, Bool, true, false, nat_eq, nat_le, ◌&&◌, not, List, [], ◌∷◌, length, map, get_or, refl, ap, ◌∙◌, arith, eq-eqb, Option, Some, None, slice_get}
+use Rattle.std.proofs.Common.{◌≡◌, ℕ, zero, suc, ◌<◌, Bool, true, false, nat_eq, nat_le, ◌&&◌, not, List, [], ◌∷◌, length, map, get_or, refl, arith, eq-eqb, Option, Some, None, slice_get}
 use Rattle.std.specs.List.{Contains}
 use Rattle.timeline.specs.declared.part.Cross.{Cross}
 use Rattle.timeline.specs.View.{TimelineOf}

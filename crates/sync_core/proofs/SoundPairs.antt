@@ -1,46 +1,45 @@
 -- The steps on two parts keep them sound.
-use Rattle.std.proofs.Common.{◌≡◌, ℕ, zero, suc, ◌+◌, ◌<◌, ◌≤◌, ◌^◌, Bool, true, false, cond, nat_eq, nat_lt, ◌||◌, ◌&&◌, not, set, ◌⊎◌, max, min, List, [], ◌∷◌, ◌++◌, length, map, refl, sym, ap, ◌∙◌, subst, inl, inr, arith, lt-ltb, le-ltb, le-leb, leb-true, ltb-true, eqb-true, eq-eqb, length-append, Option, Some, None, option_map, unwrap_or, slice_get, slice_index}
+use Rattle.std.proofs.Common.{◌≡◌, ℕ, zero, suc, ◌+◌, ◌<◌, ◌≤◌, Bool, true, false, cond, nat_eq, nat_lt, ◌||◌, ◌&&◌, not, set, ◌⊎◌, max, List, [], ◌∷◌, ◌++◌, length, map, refl, sym, ap, ◌∙◌, subst, inl, inr, arith, lt-ltb, le-leb, leb-true, ltb-true, eqb-true, eq-eqb, length-append, Option, Some, None, option_map, unwrap_or, slice_get, slice_index}
 use mathlib.Core.Path.{fun_ext}
 use Rattle.event_order.specs.declared.key.Key.{Key}
-use Rattle.event_order.specs.Pending.{Among, IsApart, put_all}
-use Rattle.event_order.proofs.Pending.{test_cases, append_among, among_append_left, among_append_right}
+use Rattle.event_order.specs.Pending.{Among, IsApart}
+use Rattle.event_order.proofs.Pending.{test_cases, append_among}
 use Rattle.ssf_model.specs.declared.event.Event.{Event}
-use Rattle.ssf_model.specs.declared.event.Parcel.{Parcel}
 use Rattle.ssf_model.specs.declared.plan.Plan.{Plan}
 use Rattle.ssf_model.specs.Run.{States}
-use Rattle.ssf_model.specs.Scene.{Scene, channel_of}
+use Rattle.ssf_model.specs.Scene.{Scene}
 use Rattle.ssf_model.specs.Truth.{IsStretch}
-use Rattle.sync_rules.specs.Parts.{Line, MailOf, BarrierOf, put_at}
+use Rattle.sync_rules.specs.Parts.{MailOf, BarrierOf, put_at}
 use Rattle.sync_rules.specs.Bounds.{IsInto, IsOutOf, goes_out, bound_of, low_of, promise_of, least_ahead_of}
 use Rattle.sync_rules.specs.Shared.{IsShared}
-use Rattle.sync_rules.specs.Sound.{IsSoundLine, IsSoundMail, IsSoundBarrier, HasDone}
-use Rattle.sync_rules.specs.Steps.{CanPost, CanTake, CanEnter, CanReport, posted_line, reported_barrier}
+use Rattle.sync_rules.specs.Sound.{IsSoundMail, IsSoundBarrier, HasDone}
+use Rattle.sync_rules.specs.Steps.{CanPost, CanTake, CanEnter, CanReport, posted_line, reported_barrier, taken_line}
 use Rattle.sync_rules.specs.Steps.{posted_mail as posted_by_rule, taken_mail as taken_by_rule}
 use Rattle.sync_rules.proofs.Posts.{posted_mail_is_sound, taken_mail_is_sound}
 use Rattle.sync_rules.proofs.Reports.{report_keeps}
 use Rattle.sync_rules.proofs.Writes.{stretch_among, origin}
 use Rattle.timeline_parts.specs.declared.ends.InEnd.{InEnd}
 use Rattle.timeline_parts.specs.declared.ends.OutEnd.{OutEnd}
-use Rattle.timeline_parts.specs.Tables.{numbers_of, AreRising, AreNumbered, item_at, changed}
+use Rattle.timeline_parts.specs.Tables.{numbers_of, AreRising, item_at, changed}
 use Rattle.timeline_parts.specs.Sending.{written_of}
 use Rattle.timeline_parts.specs.Settling.{AreNew}
 use Rattle.timeline_parts.proofs.Tables.{known_item, numbers_changed, item_changed}
 use Rattle.timeline.specs.View.{TimelineOf, key_of}
 use Rattle.timeline.specs.Holding.{taken_of, held_of, bound_in, low_in, ahead_in}
 use Rattle.timeline.specs.Opening.{channel_of as cross_channel}
-use Rattle.timeline.specs.Moving.{IsHandedOut, IsTaken, posted_end, parcel_of, taken_end, can_enter, entered_at}
+use Rattle.timeline.specs.Moving.{IsHandedOut, taken_end, can_enter, entered_at}
 use Rattle.timeline.specs.Lines.{line_of, posted_of, outbox_of}
 use Rattle.timeline.specs.declared.part.Cross.{Cross}
 use Rattle.timeline.specs.Sound.{IsSoundTimeline, CountsAt}
 use Rattle.timeline.proofs.TellsBounds.{number_among, item_among, bound_is, low_is, ahead_is}
 use Rattle.timeline.proofs.Fresh.{new_events}
-use Rattle.timeline.proofs.Moved.{post_line, post_sound, post_promise, post_end, take_sound, enters_by_barrier, may_enter, roomy}
+use Rattle.timeline.proofs.Moved.{take_line, post_line, post_sound, post_promise, post_end, take_sound, enters_by_barrier, may_enter, roomy}
 use Rattle.appointments.specs.Mails.{ChannelMail, Mails, mail_at, posted_of as posted_to}
-use Rattle.appointments.specs.Posts.{posted_mail, taken_mail, taken_parcel}
+use Rattle.appointments.specs.Posts.{taken_mail, taken_parcel}
 use Rattle.barrier_window.specs.BarrierFields.{BarrierFields}
 use Rattle.barrier_window.specs.Crossings.{latest, latest_of, with_report}
 use Rattle.sync_core.specs.Between.{HasItsEnds, is_silent, can_report, count_on, counts_in, promise_in, can_post, parcel_in, posted_timeline, IsPostedTo, IsMailOf, can_take, events_on, taken_on, taken_all, IsTakenFrom}
-use Rattle.sync_core.specs.Sounds.{mail_as, AreSoundMails, number_of, has_least, least_in, barrier_as, HaveTheirPlaces}
+use Rattle.sync_core.specs.Sounds.{mail_as, AreSoundMails, number_of, has_least, least_in, barrier_as, HaveTheirPlaces, taken_lines}
 
 -- ---- tests
 
@@ -221,6 +220,20 @@ module _ {B S P : Type 0} (plan : Plan B S P) (line : ℕ → ℕ) (s : Scene (S
       taken_keeps cs (taken_on c (taken_parcel (mail_at mail c)) u) (taken_one u c sound here.0 here.1 here.2) rising.1
       (λ k a. let there = stands k (inr a) in (there.0, taken_there mail c k u (λ e. let less = rising.0 k a in omega arith) ∙ there.1, there.2))
 
+  line_one : (u : TimelineOf B S P) (c : ℕ) → IsSoundTimeline plan line s i m u → IsInto s.net i c → taken_of u.in_ends c ≡ (mail_at mail c).taken → IsSoundMail s c (mail_as (mail_at mail c))
+      → line_of m (taken_on c (taken_parcel (mail_at mail c)) u) ≡ taken_line s c (line_of m u) (mail_as (mail_at mail c))
+  line_one u c sound into taken sound_mail =
+      take_line plan line s keys sh i m u sound c (taken_parcel (mail_at mail c)) (taken_on c (taken_parcel (mail_at mail c)) u) (end_known u sound c into)
+      (record { spare = omega arith; is = refl }) (sym taken) sound_mail.parcel
+
+  pub lines_keep : (cs : List ℕ) (u : TimelineOf B S P) → IsSoundTimeline plan line s i m u → AreRising cs → Stands u cs → line_of m (taken_all mail cs u) ≡ taken_lines s mail cs (line_of m u)
+  lines_keep [] u sound rising stands = refl
+  lines_keep (c ∷ cs) u sound rising stands =
+      let here = stands c (inl refl) in
+      lines_keep cs (taken_on c (taken_parcel (mail_at mail c)) u) (taken_one u c sound here.0 here.1 here.2) rising.1
+      (λ k a. let there = stands k (inr a) in (there.0, taken_there mail c k u (λ e. let less = rising.0 k a in omega arith) ∙ there.1, there.2))
+      ∙ ap (taken_lines s mail cs) (line_one u c sound here.0 here.1 here.2)
+
   on_channel : (c : ℕ) (d : Event P) → IsSoundMail s c (mail_as (mail_at mail c)) → Among d (mail_at mail c).events → d.key.channel ≡ c
   on_channel c d sound_mail a =
       let found = stretch_among s c (mail_at mail c).taken (posted_to (mail_at mail c)) (mail_at mail c).events d sound_mail.parcel.events a in
@@ -300,6 +313,12 @@ module _ {B S P : Type 0} (plan : Plan B S P) (line : ℕ → ℕ) (s : Scene (S
 
       row_taken : (row : ChannelMail P) → mail_as (taken_mail row) ≡ taken_by_rule (mail_as row)
       row_taken row = let none : posted_to row + 0 ≡ posted_to row = omega arith in ap (λ n. record { events = []; posted = n; taken = posted_to row; appointment = row.appointment }) none
+
+      pub lines_as : line_of m after ≡ taken_lines s mail mail.channels (line_of m t)
+      lines_as = ap (line_of m) q.timeline ∙ lines_keep mail.channels t sound rising (stands mails)
+
+      pub rows_as : (c : ℕ) → IsInto s.net i c → mail_as (mail_at mail_after c) ≡ taken_by_rule (mail_as (mail_at mail c))
+      rows_as c into = ap mail_as (q.rows c (subst (λ ns. Among c ns) (sym ends_are) (end_known t sound c into))) ∙ row_taken (mail_at mail c)
 
       pub mails_keep : AreSoundMails s i mail_after
       mails_keep c into =

@@ -1,25 +1,21 @@
 -- What is taken of a mail, channel by channel.
-use Rattle.std.proofs.Common.{◌≡◌, ℕ, zero, suc, ◌+◌, ◌-◌, ◌<◌, ◌≤◌, Bool, true, false, cond, nat_eq, nat_lt, ◌||◌, ◌⊎◌, List, [], ◌∷◌, ◌++◌, length, map, take, drop, get_or, refl, sym, ap, ◌∙◌, subst, inl, inr, arith, lt-ltb, le-ltb, eqb-true, eq-eqb, add-one, drop-cons, length-append}
+use Rattle.std.proofs.Common.{◌≡◌, ℕ, zero, suc, ◌+◌, ◌<◌, ◌≤◌, true, false, nat_eq, ◌⊎◌, List, [], ◌∷◌, ◌++◌, length, map, take, drop, get_or, refl, sym, ap, ◌∙◌, subst, inl, inr, arith, eqb-true, eq-eqb, add-one, drop-cons, length-append}
 use Rattle.std.proofs.lemmas.List.{take_more}
-use Rattle.std.proofs.Math.Seq.{take-length}
 use Rattle.std.specs.List.{Contains}
-use Rattle.event_order.specs.declared.key.Key.{Key}
-use Rattle.event_order.specs.Pending.{Among, IsApart, put, put_all}
+use Rattle.event_order.specs.Pending.{Among, IsApart, put_all}
 use Rattle.event_order.proofs.Pending.{test_cases, append_among, put_all_among, among_append_left, among_append_right}
 use Rattle.ssf_model.specs.declared.event.Event.{Event}
-use Rattle.timeline_parts.specs.declared.ends.InEnd.{InEnd}
-use Rattle.timeline_parts.specs.Tables.{numbers_of, AreRising, item_at, changed}
+use Rattle.timeline_parts.specs.Tables.{numbers_of, AreRising}
 use Rattle.timeline_parts.proofs.Tables.{numbers_changed}
 use Rattle.timeline_parts.specs.Settling.{AreNew}
 use Rattle.timeline.specs.declared.part.Cross.{Cross}
 use Rattle.timeline.specs.View.{TimelineOf, key_of}
-use Rattle.timeline.specs.Holding.{taken_of, held_of}
 use Rattle.timeline.specs.Opening.{channel_of}
 use Rattle.timeline.specs.Moving.{IsTaken}
-use Rattle.appointments.specs.Mails.{ChannelMail, Mails, mail_at, posted_of as posted_to}
+use Rattle.appointments.specs.Mails.{ChannelMail, Mails, mail_at}
 use Rattle.appointments.specs.Posts.{taken_mail, taken_parcel}
 use Rattle.sync_core.proofs.Words.{append_same}
-use Rattle.sync_core.specs.Between.{IsMailOf, can_take, events_on, taken_on, taken_all, IsTakenFrom}
+use Rattle.sync_core.specs.Between.{events_on, taken_on, taken_all, IsTakenFrom}
 
 -- ---- lists
 
@@ -30,11 +26,6 @@ contained_at (y ∷ ys) x (inr a) = let r = contained_at ys x a in (suc r.0, ome
 
 pub contained : (xs : List ℕ) (x : ℕ) → Among x xs → Contains xs x
 contained xs x a = contained_at xs x a
-
-pub among_at : (xs : List ℕ) (x k : ℕ) → k < length xs → get_or xs k x ≡ x → Among x xs
-among_at [] x k h e = absurd (omega arith)
-among_at (y ∷ ys) x zero h e = inl (sym e)
-among_at (y ∷ ys) x (suc k) h e = inr (among_at ys x k (omega arith) e)
 
 pub mapped_among : (xs : List Cross) (i : ℕ) (x : Cross) → i < length xs → x ≡ get_or xs i x → Among (channel_of x) (map channel_of xs)
 mapped_among [] i x h e = absurd (omega arith)
@@ -75,32 +66,6 @@ pub known_cross : (xs ys : List Cross) (channels : List ℕ) (i : ℕ) → chann
 known_cross xs ys channels i is same h =
     let all : map channel_of xs ≡ channels = ap (map channel_of) same ∙ sym is in
     subst (λ cs. Among (channel_of (get_or xs i no_cross)) cs) all (mapped_among xs i (get_or xs i no_cross) h (cross_is xs i h))
-
--- ---- whether there is mail
-
-more_lt : (a b n : ℕ) → a ≡ b → nat_lt a (b + n) ≡ nat_lt 0 n
-more_lt a b zero e = let f : nat_lt a (b + 0) ≡ false = le-ltb a (b + 0) (omega arith) in f ∙ sym (le-ltb 0 0 (omega arith))
-more_lt a b (suc n) e = let t : nat_lt a (b + suc n) ≡ true = lt-ltb a (b + suc n) (omega arith) in t ∙ sym (lt-ltb 0 (suc n) (omega arith))
-
-module _ {B S P : Type 0} where
-  abbrev pub has_on : TimelineOf B S P → Mails P → ℕ → Bool
-  has_on t mail c = nat_lt 0 (length (mail_at mail c).events) || nat_lt (held_of t.in_ends c) (mail_at mail c).appointment
-
-  pub posted_above : (t : TimelineOf B S P) (mail : Mails P) (c posted taken : ℕ) → IsMailOf mail t → Among c mail.channels → posted ≡ posted_to (mail_at mail c) → taken ≡ taken_of t.in_ends c
-      → nat_lt taken posted ≡ nat_lt 0 (length (mail_at mail c).events)
-  posted_above t mail c posted taken own known p e = rw (p, e) (more_lt (taken_of t.in_ends c) (mail_at mail c).taken (length (mail_at mail c).events) (sym (own.taken c known)))
-
-  pub waiting_on : (t : TimelineOf B S P) (mail : Mails P) (c posted taken : ℕ) → IsMailOf mail t → Among c mail.channels → posted ≡ posted_to (mail_at mail c) → taken ≡ taken_of t.in_ends c
-      → taken + length (mail_at mail c).events ≡ posted
-  waiting_on t mail c posted taken own known p e = let same = own.taken c known in omega arith
-
-  pub mail_next : (t : TimelineOf B S P) (mail : Mails P) (xs : List Cross) (i : ℕ) (x : Cross) → i < length xs → x ≡ get_or xs i x → has_on t mail (channel_of x) ≡ false
-      → can_take t mail (map channel_of (drop i xs)) ≡ can_take t mail (map channel_of (drop (i + 1) xs))
-  mail_next t mail xs i x h e f = rw (drop-cons xs i x h, ← e, add-one) (rw f refl)
-
-  pub mail_here : (t : TimelineOf B S P) (mail : Mails P) (xs : List Cross) (i : ℕ) (x : Cross) → i < length xs → x ≡ get_or xs i x → has_on t mail (channel_of x) ≡ true
-      → can_take t mail (map channel_of (drop i xs)) ≡ true
-  mail_here t mail xs i x h e f = rw (drop-cons xs i x h, ← e) (rw f refl)
 
 -- ---- how many events there are
 
@@ -164,9 +129,6 @@ module _ {B S P : Type 0} where
     rows = q.rows;
   }
 
-  pub mail_after_room : (mail : Mails P) (t mid : TimelineOf B S P) → mid ≡ record t { spare = mid.spare } → IsMailOf mail t → IsMailOf mail mid
-  mail_after_room mail t mid room own = subst (λ (u : TimelineOf B S P). IsMailOf mail u) (sym room) (record { channels = own.channels; ends = own.ends; taken = own.taken })
-
   -- the first so many channels were taken
   pub record IsTakenUpTo (xs : List Cross) (i : ℕ) (mail mail_now : Mails P) (t now : TimelineOf B S P) : Type 0 where
     pub ins : now.ins ≡ xs
@@ -177,20 +139,6 @@ module _ {B S P : Type 0} where
     pub from : (c : ℕ) → Among c (map channel_of (drop i xs)) → mail_at mail_now c ≡ mail_at mail c
     pub room : length (events_on mail (map channel_of (drop i xs))) ≤ now.spare
     pub new : AreNew (events_on mail (map channel_of (drop i xs))) now.pending
-
-  -- nothing is taken yet
-  pub take_none : (xs : List Cross) (mail : Mails P) (t : TimelineOf B S P) → t.ins ≡ xs → mail.channels ≡ map channel_of xs → length (events_on mail mail.channels) ≤ t.spare → AreNew (events_on mail mail.channels) t.pending
-      → IsTakenUpTo xs 0 mail mail t t
-  take_none xs mail t ins is room new = record {
-    ins = ins;
-    ends = refl;
-    timeline = refl;
-    channels = refl;
-    before = λ c a. absurd a;
-    from = λ c a. refl;
-    room = subst (λ cs. length (events_on mail cs) ≤ t.spare) is room;
-    new = subst (λ cs. AreNew (events_on mail cs) t.pending) is new;
-  }
 
   -- the mail on the next channel is new
   pub next_new : (xs : List Cross) (i : ℕ) (x : Cross) (mail mail_now : Mails P) (t now : TimelineOf B S P) → i < length xs → x ≡ get_or xs i x → IsTakenUpTo xs i mail mail_now t now
@@ -256,13 +204,3 @@ module _ {B S P : Type 0} where
       before_cases : (k : ℕ) → Among k (map channel_of (take i xs)) → (nat_eq k (channel_of x) ≡ true) ⊎ (nat_eq k (channel_of x) ≡ false) → mail_at mail_next k ≡ taken_mail (mail_at mail k)
       before_cases k a (inl t) = there k (eqb-true k (channel_of x) t)
       before_cases k a (inr f) = others k (λ is. let t : nat_eq k (channel_of x) ≡ true = eq-eqb k (channel_of x) is in absurd (cc)) ∙ q.before k a
-
-  -- all channels were taken
-  pub take_end : (xs : List Cross) (i : ℕ) (mail mail_now : Mails P) (t now : TimelineOf B S P) → i ≡ length xs → mail.channels ≡ map channel_of xs → IsTakenUpTo xs i mail mail_now t now → IsTakenFrom mail mail_now t now
-  take_end xs i mail mail_now t now end is q =
-      let all : map channel_of (take i xs) ≡ mail.channels = ap (map channel_of) (rw end (take-length xs)) ∙ sym is in
-      record {
-        timeline = q.timeline ∙ ap (λ cs. record (taken_all mail cs t) { spare = now.spare }) all;
-        channels = q.channels;
-        rows = λ c a. q.before c (subst (λ cs. Among c cs) (sym all) a);
-      }

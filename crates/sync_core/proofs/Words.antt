@@ -69,10 +69,6 @@ append_same (x ∷ xs) ys zs = ap (λ l. x ∷ l) (append_same xs ys zs)
 abbrev pub after : List Step → Option (List Step) → Option (List Step)
 after steps others = option_map (λ more. steps ++ more) others
 
-pub after_none : (others : Option (List Step)) → after [] others ≡ others
-after_none None = refl
-after_none (Some steps) = refl
-
 more_step : (steps : List Step) (step : Step) (others : Option (List Step)) → after steps (with_step (Some step) others) ≡ after (steps ++ step ∷ []) others
 more_step steps step None = refl
 more_step steps step (Some others) = ap (λ (all : List Step). Some all) (sym (append_same steps (step ∷ []) others))

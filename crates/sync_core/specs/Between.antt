@@ -1,19 +1,18 @@
 -- The steps on two parts: when they can be made, and what becomes of the two.
-use Rattle.std.specs.Prelude.{ℕ, ◌≡◌, ◌+◌, ◌<◌, Bool, true, false, cond, nat_eq, nat_le, nat_lt, ◌&&◌, ◌||◌, not, min, List, [], ◌∷◌, ◌++◌, map, length, Option, Some, None, slice_get}
+use Rattle.std.specs.Prelude.{ℕ, ◌≡◌, ◌+◌, Bool, true, false, cond, nat_eq, nat_le, nat_lt, ◌&&◌, ◌||◌, not, min, List, [], ◌∷◌, ◌++◌, map, length, Option, Some, None, slice_get}
 use Rattle.event_order.specs.Pending.{Among, put_all}
 use Rattle.ssf_model.specs.declared.event.Event.{Event}
 use Rattle.ssf_model.specs.declared.event.Parcel.{Parcel}
-use Rattle.timeline_parts.specs.declared.ends.InEnd.{InEnd}
 use Rattle.timeline_parts.specs.declared.ends.OutEnd.{OutEnd}
 use Rattle.timeline_parts.specs.Tables.{numbers_of, item_at, changed}
 use Rattle.timeline_parts.specs.Sending.{written_of}
 use Rattle.timeline.specs.declared.part.Cross.{Cross}
 use Rattle.timeline.specs.View.{TimelineOf, key_of}
-use Rattle.timeline.specs.Holding.{low_in, ahead_in, taken_of, held_of}
+use Rattle.timeline.specs.Holding.{low_in, taken_of, held_of}
 use Rattle.timeline.specs.Opening.{channel_of}
 use Rattle.timeline.specs.Moving.{taken_end, posted_end}
 use Rattle.timeline.specs.Lines.{posted_of, outbox_of}
-use Rattle.appointments.specs.Mails.{ChannelMail, Mails, mail_at, posted_of as posted_to}
+use Rattle.appointments.specs.Mails.{ChannelMail, Mails, mail_at}
 use Rattle.appointments.specs.Posts.{posted_mail, taken_mail, taken_parcel}
 use Rattle.barrier_window.specs.BarrierFields.{BarrierFields}
 use Rattle.sync_core.specs.declared.steps.Stepped.{Stepped}

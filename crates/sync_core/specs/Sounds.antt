@@ -3,9 +3,10 @@ use Rattle.std.specs.Prelude.{ℕ, ◌≡◌, Bool, true, false, cond, nat_eq, L
 use Rattle.event_order.specs.Pending.{Among}
 use Rattle.ssf_model.specs.declared.event.Event.{Event}
 use Rattle.ssf_model.specs.Scene.{Scene}
-use Rattle.sync_rules.specs.Parts.{MailOf, BarrierOf}
+use Rattle.sync_rules.specs.Parts.{Line, MailOf, BarrierOf}
 use Rattle.sync_rules.specs.Bounds.{IsInto}
 use Rattle.sync_rules.specs.Sound.{IsSoundMail}
+use Rattle.sync_rules.specs.Steps.{taken_line}
 use Rattle.timeline.specs.View.{TimelineOf}
 use Rattle.sync_core.specs.Between.{HasItsEnds}
 use Rattle.timeline_parts.specs.declared.ends.InEnd.{InEnd}
@@ -61,3 +62,8 @@ pub record IsBarrierFor {X B S P : Type 0} (s : Scene X (Event P)) (i : ℕ) (t 
   pub each : length b.sent ≡ length b.channels
   pub crosses : (c : ℕ) → s.net.cross c ≡ true → Among c b.channels
   pub known : i < length b.reports
+
+-- the steps that take the mail on some channels, one after the other
+abbrev pub taken_lines : {X P : Type 0} → Scene X (Event P) → Mails P → List ℕ → Line (Event P) → Line (Event P)
+taken_lines s mail [] l = l
+taken_lines s mail (c ∷ cs) l = taken_lines s mail cs (taken_line s c l (mail_as (mail_at mail c)))

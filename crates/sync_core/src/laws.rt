@@ -9,7 +9,7 @@ ghost use Rattle.ssf_model.specs.Truth.{IsWindow};
 ghost use Rattle.sync_rules.specs.Parts.{BarrierOf};
 ghost use Rattle.sync_rules.specs.Bounds.{IsInto, IsOutOf};
 ghost use Rattle.sync_rules.specs.Sound.{HasDone, IsSoundMail, IsSoundBarrier};
-ghost use Rattle.sync_rules.specs.Steps.{CanPost, CanTake, CanEnter, CanReport, posted_line, posted_mail, reported_barrier};
+ghost use Rattle.sync_rules.specs.Steps.{CanPost, CanTake, CanEnter, CanReport, posted_line, posted_mail, taken_mail, reported_barrier};
 ghost use Rattle.timeline_parts.specs.Tables.{numbers_of, AreRising};
 ghost use Rattle.timeline_parts.specs.Settling.{AreNew};
 ghost use Rattle.timeline.specs.View.{TimelineOf};
@@ -21,7 +21,7 @@ ghost use Rattle.barrier_window.specs.BarrierFields.{BarrierFields};
 ghost use Rattle.barrier_window.specs.Crossings.{with_report};
 ghost use Rattle.timeline.specs.Holding.{ahead_in};
 ghost use Rattle.sync_core.specs.Between.{can_post, IsPostedTo, IsMailOf, can_take, events_on, IsTakenFrom, can_report, counts_in};
-ghost use Rattle.sync_core.specs.Sounds.{mail_as, AreSoundMails, barrier_as, HaveTheirPlaces, IsBarrierFor};
+ghost use Rattle.sync_core.specs.Sounds.{mail_as, AreSoundMails, barrier_as, HaveTheirPlaces, IsBarrierFor, taken_lines};
 
 use ssf_model::Behaviour;
 
@@ -49,14 +49,20 @@ pub fn posts_between_are_steps<B: Behaviour>()
 {}
 
 /// The events of a sound timeline's own sound mail are new to it (`new`), and there is something to take
-/// exactly where the rules say so of some channel (`enabled`). After all was taken the two are sound
-/// (`timeline`, `mail`).
+/// exactly where the rules say so of some channel (`enabled`). After all was taken the two are what the
+/// rules make of them channel by channel (`line`, `row`), and sound (`timeline`, `mail`).
 pub fn takes_between_are_steps<B: Behaviour>()
     ensures new { (b : B) → OfEachSoundTimeline {B = B} (B.valid b) (B.carried b) (B.reaction b) (λ plan line s i m t.
         (mail : Mails B.Payload) → IsMailOf mail t → AreSoundMails s i mail → AreNew (events_on mail mail.channels) t.pending) }
     ensures enabled { (b : B) → OfEachSoundTimeline {B = B} (B.valid b) (B.carried b) (B.reaction b) (λ plan line s i m t.
         (mail : Mails B.Payload) → IsMailOf mail t
         → (can_take t mail mail.channels ≡ true) ↔ ((c : ℕ) × IsInto s.net i c × CanTake c (line_of m t) (mail_as (mail_at mail c)))) }
+    ensures line { (b : B) → OfEachSoundTimeline {B = B} (B.valid b) (B.carried b) (B.reaction b) (λ plan line s i m t.
+        (mail mail_after : Mails B.Payload) (after : TimelineOf B B.State B.Payload) → IsMailOf mail t → AreSoundMails s i mail → IsTakenFrom mail mail_after t after
+        → line_of m after ≡ taken_lines s mail mail.channels (line_of m t)) }
+    ensures row { (b : B) → OfEachSoundTimeline {B = B} (B.valid b) (B.carried b) (B.reaction b) (λ plan line s i m t.
+        (mail mail_after : Mails B.Payload) (after : TimelineOf B B.State B.Payload) → IsMailOf mail t → AreSoundMails s i mail → IsTakenFrom mail mail_after t after
+        → (c : ℕ) → IsInto s.net i c → mail_as (mail_at mail_after c) ≡ taken_mail (mail_as (mail_at mail c))) }
     ensures timeline { (b : B) → OfEachSoundTimeline {B = B} (B.valid b) (B.carried b) (B.reaction b) (λ plan line s i m t.
         (mail mail_after : Mails B.Payload) (after : TimelineOf B B.State B.Payload) → IsMailOf mail t → AreSoundMails s i mail → IsTakenFrom mail mail_after t after
         → IsSoundTimeline plan line s i m after) }

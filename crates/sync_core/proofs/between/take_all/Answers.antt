@@ -1,4 +1,4 @@
-use Rattle.std.proofs.Common.{◌≡◌, ◌<◌, ◌∙◌, ap, sym, subst, get_or, length, map}
+use Rattle.std.proofs.Common.{◌≡◌, ◌<◌, ◌∙◌, sym, subst, get_or, length, map}
 use Rattle.timeline_parts.specs.Tables.{AreRising, numbers_of}
 use Rattle.timeline.specs.Opening.{channel_of}
 use Rattle.sync_core.proofs.Taking.{known_cross, no_cross, cross_is, next_new, take_more_mail}
