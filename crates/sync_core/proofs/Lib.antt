@@ -1,0 +1,5 @@
+pub mod Words
+pub mod Posting
+pub mod Taking
+pub mod Reporting
+pub mod SoundPairs

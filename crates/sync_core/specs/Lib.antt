@@ -1,0 +1,3 @@
+pub mod Schedules
+pub mod Between
+pub mod Sounds
