@@ -7,13 +7,13 @@ use Rattle.event_order.proofs.Pending.{test_cases, among_filter, filter_among}
 use Rattle.ssf_model.specs.declared.plan.Mapping.{Mapping}
 use Rattle.ssf_model.specs.declared.plan.Plan.{Plan}
 use Rattle.ssf_model.specs.Run.{IsWired}
-use Rattle.ssf_model.specs.Truth.{lesser as lesser_in}
+use Rattle.ssf_model.specs.Truth.{lesser}
 use Rattle.ssf_model.proofs.Lists.{different}
 use Rattle.run_health.proofs.Writers.{one_mapping}
 use Rattle.sync_rules.specs.Bounds.{IsInto, IsOutOf}
 use Rattle.sync_facts.specs.Nets.{at_mapping, crosses, net_of, is_appointed, least_windowed as least_by}
 use Rattle.alignment.specs.Alignment.{line_of}
-use Rattle.alignment.specs.Classes.{is_cross, is_windowed, lesser, least_windowed}
+use Rattle.alignment.specs.Classes.{is_cross, is_windowed, least_windowed}
 use Rattle.timeline_parts.specs.declared.part.Cross.{Cross}
 use Rattle.timeline_parts.specs.Parts.{channel_of}
 use Rattle.plan_shares.specs.Shares.{is_on, cross_of, crosses_of, into, out_of, share_of}
@@ -114,10 +114,6 @@ module _ {B S P : Type 0} (plan : Plan B S P) (wired : IsWired plan) (lines : Li
 
 -- ---- the lookahead
 
-lesser_same : (o : Option ℕ) (n : ℕ) → lesser o n ≡ lesser_in o n
-lesser_same None n = refl
-lesser_same (Some m) n = refl
-
 lesser_turned : (o : Option ℕ) (a b : ℕ) → lesser (lesser o a) b ≡ lesser (lesser o b) a
 lesser_turned None a b = ap (λ n. Some n) (omega arith)
 lesser_turned (Some m) a b = ap (λ n. Some n) (omega arith)
@@ -130,6 +126,6 @@ pub lookahead_same : (lines : List ℕ) (threshold : ℕ) (ms : List Mapping) �
 lookahead_same lines threshold [] = refl
 lookahead_same lines threshold (m ∷ ms) = elim (test_cases (is_windowed lines threshold m)) [
   | inl t ↦ rw t (fold_last None m.delay (map (λ (k : Mapping). k.delay) (filter (is_windowed lines threshold) ms))
-      ∙ (lesser_same (least_windowed lines threshold ms) m.delay ∙ ap (λ o. lesser_in o m.delay) (lookahead_same lines threshold ms)))
+      ∙ ap (λ o. lesser o m.delay) (lookahead_same lines threshold ms))
   | inr f ↦ rw f (lookahead_same lines threshold ms)
 ]
