@@ -163,12 +163,13 @@ impl<S: Drop> SessionTable<S> {
     pub fn due(&self, alloc: Global, now: u64) -> Result<Vec<u64>, Memory>
         ensures { IfOk result (λ numbers. numbers.items ≡ due now self.now) }
     {
-        Ok(self
-            .entries
-            .values()
-            .filter(|entry| has_passed(entry.deadline, now))
-            .map(|entry| entry.number)
-            .collect(alloc)?)
+        Ok(
+            self.entries
+                .values()
+                .filter(|entry| has_passed(entry.deadline, now))
+                .map(|entry| entry.number)
+                .collect(alloc)?,
+        )
     }
 
     /// Puts a session into the table, in its place by numbers.
