@@ -1,5 +1,5 @@
 -- Such a timeline can execute its first event, and stays such a one.
-use Rattle.std.proofs.Common.{◌≡◌, ℕ, zero, suc, ◌+◌, ◌-◌, ◌*◌, ◌^◌, ◌<◌, ◌≤◌, ◌⊎◌, Bool, true, false, cond, nat_eq, nat_le, List, [], ◌∷◌, ◌++◌, length, map, replicate, refl, sym, ap, ◌∙◌, subst, inl, inr, arith, eq-eqb, count_by, Option, Some, None, option_map, unwrap_or, Result, Ok, Err, IfOk, OnOk, OnErr, if◌then◌else◌}
+use Rattle.std.proofs.Common.{◌≡◌, ℕ, zero, suc, ◌+◌, ◌-◌, ◌^◌, ◌<◌, ◌≤◌, ◌⊎◌, Bool, true, false, cond, nat_eq, nat_le, List, [], ◌∷◌, length, map, replicate, refl, sym, ap, ◌∙◌, subst, inl, inr, arith, eq-eqb, count_by, Option, Some, None, option_map, unwrap_or, Result, Ok, Err, IfOk, OnOk, OnErr, if◌then◌else◌}
 use Rattle.std.specs.List.{flat_map, All}
 use Rattle.std.proofs.lemmas.Grind.{common_steps}
 use Rattle.event_order.specs.declared.key.Key.{Key}
@@ -34,13 +34,13 @@ use Rattle.timeline.specs.declared.answers.Ran.TheVariants.{Idle, Spent, Ran as 
 use Rattle.timeline.specs.declared.part.Cross.{Cross}
 use Rattle.timeline.specs.declared.part.Part.{Part}
 use Rattle.timeline.specs.View.{TimelineOf, key_of, routes_by}
-use Rattle.timeline.specs.Opening.{channel_of, first_in, first_out, IsPart, IsFirst}
+use Rattle.timeline.specs.Opening.{channel_of, first_out, IsPart, IsFirst}
 use Rattle.timeline.specs.Moving.{taken_end, posted_end, MayTake, IsTaken, IsHandedOut, entered_at, without}
 use Rattle.timeline.specs.Holding.{IsInOrder}
-use Rattle.timeline.specs.Executing.{refusal, MayAct, MayRun, IsRun, sent_in, written_in, spent_of}
+use Rattle.timeline.specs.Executing.{refusal, MayRun, IsRun, sent_in, written_in, spent_of}
 use Rattle.timeline.proofs.Refusals.{refusal_spent, refusal_idle}
 use Rattle.timeline.proofs.Kept.{numbers_first_in, numbers_first_out}
-use Rattle.timeline_tests.specs.Tame.{ends_a_wait, IsPlain, IsTame, IsNode, IsSimple, IsNodePart, IsLone, IsSmall, first_count}
+use Rattle.timeline_tests.specs.Tame.{ends_a_wait, IsPlain, IsTame, IsNode, IsSimple, IsNodePart, IsSmall, first_count}
 
 timely : (kind : Kind RingPayload) (ps : List Process) → ends_a_wait kind ≡ false → IsTimely kind ps
 timely Begin ps h = tt

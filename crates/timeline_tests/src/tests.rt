@@ -5,7 +5,7 @@ use ring_model::RingPayload;
 use sim_base::ListOf;
 use ssf_model::Parcel;
 use std::alloc::Global;
-use timeline::{Holder, Ran};
+use timeline::{Cross, Holder, Ran};
 
 const BUDGET: u64 = 1000;
 
@@ -15,16 +15,17 @@ const BUDGET: u64 = 1000;
 fn window_case(alloc: Global) -> bool {
     let first = hop(2, 0, 1, 5, 0, false);
     let second = hop(3, 1, 0, 3, 1, true);
-    let Some(mut zero) = Node::new(alloc, 0, 1, &[second], &[first], 10, BUDGET) else {
-        return false;
-    };
-    let Some(mut one) = Node::new(alloc, 1, 0, &[first], &[second], 10, BUDGET) else {
-        return false;
-    };
-    if !are_in_step(&mut zero, &mut one) {
-        return false;
+    match Node::new(alloc, 0, 1, &[second], &[first], 10, BUDGET) {
+        Some(mut zero) => is_held_beside(alloc, &mut zero, first, second),
+        None => false,
     }
-    ends(alloc, one)
+}
+
+fn is_held_beside(alloc: Global, zero: &mut Node, first: Cross, second: Cross) -> bool {
+    match Node::new(alloc, 1, 0, &[first], &[second], 10, BUDGET) {
+        Some(mut one) => are_in_step(zero, &mut one) && ends(alloc, one),
+        None => false,
+    }
 }
 
 fn are_in_step(zero: &mut Node, one: &mut Node) -> bool {
