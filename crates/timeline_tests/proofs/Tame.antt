@@ -31,10 +31,11 @@ use Rattle.timeline_parts.proofs.Tables.{known_item, item_changed, numbers_chang
 use Rattle.timeline_parts.proofs.Sending.{numbers_all_counted, numbers_all_put}
 use Rattle.timeline.specs.declared.answers.Ran.{Ran}
 use Rattle.timeline.specs.declared.answers.Ran.TheVariants.{Idle, Spent, Ran as RanKey}
-use Rattle.timeline.specs.declared.part.Cross.{Cross}
-use Rattle.timeline.specs.declared.part.Part.{Part}
+use Rattle.timeline_parts.specs.declared.part.Cross.{Cross}
+use Rattle.timeline_parts.specs.declared.part.Part.{Part}
 use Rattle.timeline.specs.View.{TimelineOf, key_of, routes_by}
-use Rattle.timeline.specs.Opening.{channel_of, first_out, IsPart, IsFirst}
+use Rattle.timeline_parts.specs.Parts.{channel_of, IsPart}
+use Rattle.timeline.specs.Opening.{first_out, IsFirst}
 use Rattle.timeline.specs.Moving.{taken_end, posted_end, MayTake, IsTaken, IsHandedOut, entered_at, without}
 use Rattle.timeline.specs.Holding.{IsInOrder}
 use Rattle.timeline.specs.Executing.{refusal, MayRun, IsRun, sent_in, written_in, spent_of}

@@ -11,10 +11,10 @@ use Rattle.ring_model.specs.declared.ring.RingState.{RingState}
 use Rattle.ring_model.specs.declared.ring.RingPayload.{RingPayload}
 use Rattle.timeline_parts.specs.Tables.{numbers_of}
 use Rattle.timeline_parts.specs.Sending.{count_of, written_of}
-use Rattle.timeline.specs.declared.part.Cross.{Cross}
-use Rattle.timeline.specs.declared.part.Part.{Part}
+use Rattle.timeline_parts.specs.declared.part.Cross.{Cross}
+use Rattle.timeline_parts.specs.declared.part.Part.{Part}
 use Rattle.timeline.specs.View.{TimelineOf}
-use Rattle.timeline.specs.Opening.{channel_of}
+use Rattle.timeline_parts.specs.Parts.{channel_of}
 
 abbrev pub ends_a_wait : Kind RingPayload → Bool
 ends_a_wait Begin = false

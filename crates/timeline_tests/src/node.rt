@@ -7,7 +7,7 @@ ghost use Rattle.ssf_model.specs.Reaction.{Each, LatestTime, LongestDelay};
 ghost use Rattle.run_health.specs.Healthy.{MostEvents};
 ghost use Rattle.ring_model.specs.declared.ring.RingPayload.{RingPayload as Token};
 ghost use Rattle.timeline_parts.specs.Tables.{AreRising, numbers_of};
-ghost use Rattle.timeline.specs.Opening.{channel_of};
+ghost use Rattle.timeline_parts.specs.Parts.{channel_of};
 ghost use Rattle.timeline_tests.specs.Tame.{ends_a_wait, IsPlain, IsNode, IsNodePart, IsOne, IsSimple, IsSmall, first_count};
 
 use event_order::Key;
