@@ -1,7 +1,7 @@
 //! Words that are schedules, and words that are not.
 
 use std::test::Fail;
-use sync_core::{ScheduleFault, Step, read_schedule};
+use sync_steps::{ScheduleFault, Step, read_schedule};
 
 #[test]
 fn schedules_are_read(rt: HostRuntime) -> Result<(), Fail> {

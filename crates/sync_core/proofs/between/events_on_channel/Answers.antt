@@ -1,5 +1,0 @@
-use Rattle.sync_core.proofs.Taking.{contained}
-use Rattle.sync_core.proofs.between.events_on_channel.Goals as goal
-
-pub posted-requires : goal.posted-requires
-posted-requires g c = contained c.args.mail.now.channels c.args.channel c.requires.known

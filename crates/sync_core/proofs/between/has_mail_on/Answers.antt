@@ -1,8 +1,0 @@
-use Rattle.sync_core.proofs.Taking.{contained}
-use Rattle.sync_core.proofs.between.has_mail_on.Goals as goal
-
-pub posted-requires : goal.posted-requires
-posted-requires g c = contained c.args.mail.now.channels c.args.channel c.requires.known
-
-pub appointment-requires : goal.appointment-requires
-appointment-requires g c = contained c.args.mail.now.channels c.args.channel c.requires.known

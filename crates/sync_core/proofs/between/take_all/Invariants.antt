@@ -1,5 +1,0 @@
-use Rattle.sync_core.proofs.Taking.{IsTakenUpTo}
-use Rattle.sync_core.proofs.between.take_all.Given as goal
-
-abbrev pub invariant-loop-place : goal.invariant-loop-place
-invariant-loop-place g l = IsTakenUpTo l.initial.timeline.ins l.place l.initial.mail l.mail l.initial.timeline l.timeline
