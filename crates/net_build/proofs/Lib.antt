@@ -4,6 +4,5 @@ pub mod Rooms
 pub mod Runs
 pub mod Worked
 pub mod Pieces
-pub mod Channels
 pub mod OneText
 mod WorkedLines

@@ -1,14 +1,11 @@
 -- A network has at most one text of its plan.
 use Rattle.std.proofs.Common.{◌≡◌, ℕ, zero, suc, List, ◌++◌, length, slice_index, sym, ap, ◌∙◌}
-use Rattle.std.specs.Prelude.{option_to_list}
 use Rattle.std.specs.List.{flat_map}
 use Rattle.spf_routes.specs.declared.graph.Route.{Route}
-use Rattle.spf_routes.proofs.Unique.{one_table}
 use Rattle.net_graph.specs.declared.rows.Network.{Network}
 use Rattle.net_graph.specs.Networks.{IsNetwork}
 use Rattle.net_layout.specs.Periods.{periods_of}
-use Rattle.net_layout.specs.Arms.{graph_of}
-use Rattle.net_layout.specs.Gateways.{gateway_route}
+use Rattle.net_layout.proofs.HostTables.{routes_one}
 use Rattle.net_build.specs.PlanText.{AreTexts, IsHostText, IsPeriodText, IsPlanText, route_line, period_line, nets_text, links_text, interfaces_text, mappings_text}
 
 -- where each piece is determined, so is the text of all pieces
@@ -23,8 +20,7 @@ texts_one P each (suc n) a b x y =
 host_one : (network : Network) (tick h : ℕ) (a b : List ℕ) → IsHostText network tick h a → IsHostText network tick h b → a ≡ b
 host_one network tick h a b x y =
     x.lines
-    ∙ (ap (λ (table : List Route). flat_map (route_line network h) (table ++ option_to_list (gateway_route network h)))
-    (one_table (graph_of network tick) h x.table y.table x.least y.least)
+    ∙ (ap (λ (routes : List Route). flat_map (route_line network h) routes) (routes_one network h tick x.routes y.routes x.are_routes y.are_routes)
     ∙ sym y.lines)
 
 period_one : (network : Network) (number : ℕ) (a b : List ℕ) → IsPeriodText network number a → IsPeriodText network number b → a ≡ b

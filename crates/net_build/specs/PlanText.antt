@@ -1,11 +1,10 @@
 -- The text of a plan: lines for Nets, links, interfaces, routes and mappings; of a ring, lines for mappings alone.
-use Rattle.std.specs.Prelude.{ℕ, zero, suc, ◌≡◌, ◌+◌, ◌==◌, List, [], ◌∷◌, ◌++◌, length, slice_index, slice_index_or, Option, Some, None, Ok, option_to_list, decimal, codes, if◌then◌else◌}
+use Rattle.std.specs.Prelude.{ℕ, zero, suc, ◌≡◌, ◌+◌, ◌==◌, List, [], ◌∷◌, ◌++◌, length, slice_index, slice_index_or, Option, Some, None, Ok, decimal, codes, if◌then◌else◌}
 use Rattle.std.specs.List.{flat_map}
 use Rattle.ip_blocks.specs.declared.block.Block.{Block}
 use Rattle.ip_blocks.specs.Blocks.{BlockLists}
 use Rattle.ip_blocks.specs.Apart.{no_block, link_block}
 use Rattle.spf_routes.specs.declared.graph.Route.{Route}
-use Rattle.spf_routes.specs.Walks.{IsTable}
 use Rattle.ssf_model.specs.declared.plan.Mapping.{Mapping}
 use Rattle.ssf_model.specs.declared.event.Names.{Names}
 use Rattle.nhi_address.specs.NhiText.{ids_text, nhi_text}
@@ -16,8 +15,8 @@ use Rattle.net_graph.specs.declared.rows.Down.{Down}
 use Rattle.net_graph.specs.Networks.{numbers, net_at, host_at, interface_at, link_at}
 use Rattle.net_layout.specs.Periods.{periods_of, has_downs}
 use Rattle.net_layout.specs.Addresses.{network_blocks, interface_address}
-use Rattle.net_layout.specs.Arms.{first_interface, graph_of}
-use Rattle.net_layout.specs.Gateways.{gateway_route}
+use Rattle.net_layout.specs.Arms.{first_interface}
+use Rattle.net_layout.specs.HostRoutes.{AreHostRoutes}
 use Rattle.net_layout.specs.Wiring.{mappings_of}
 use Rattle.net_build.specs.RingModel.{Read, then_read, ring_plan_of}
 
@@ -97,11 +96,11 @@ abbrev pub AreTexts : (ℕ → List ℕ → Type 0) → ℕ → List ℕ → Typ
 AreTexts P zero text = text ≡ []
 AreTexts P (suc n) text = (before piece : List ℕ) × AreTexts P n before × P n piece × (text ≡ before ++ piece)
 
--- the lines of a host's routes at a tick: the least routes, and then the default route
+-- the lines of a host's routes at a tick
 pub record IsHostText (network : Network) (tick h : ℕ) (text : List ℕ) : Type 0 where
-  pub table : List Route
-  pub least : IsTable (graph_of network tick) h table
-  pub lines : text ≡ flat_map (route_line network h) (table ++ option_to_list (gateway_route network h))
+  pub routes : List Route
+  pub are_routes : AreHostRoutes network h tick routes
+  pub lines : text ≡ flat_map (route_line network h) routes
 
 -- the line of a period, where the network has downs
 unfoldable pub period_line : Network → ℕ → List ℕ

@@ -1,5 +1,5 @@
 //! The lines of routes.
-ghost use Rattle.std.specs.Prelude.{◌≡◌, ◌<◌, ◌++◌, ℕ, List, length, option_to_list, OnOk};
+ghost use Rattle.std.specs.Prelude.{◌≡◌, ◌<◌, ◌++◌, ℕ, List, length, OnOk};
 ghost use Rattle.std.specs.List.{flat_map};
 ghost use Rattle.spf_routes.specs.Walks.{IsGraph};
 ghost use Rattle.net_graph.specs.Networks.{IsNetwork};
@@ -12,9 +12,9 @@ use crate::fields::{end_line, push_address, push_block, push_bytes, push_decimal
 use crate::names::host_name;
 use ip_blocks::Blocks;
 use net_graph::Network;
-use net_layout::{Layout, first_interface, gateway_route, graph, has_downs};
+use net_layout::{Layout, first_interface, graph, has_downs, host_period};
 use sim_base::Memory;
-use spf_routes::{Graph, Route, shortest};
+use spf_routes::{Graph, Route};
 use std::alloc::Global;
 
 /// Appends the routes of all hosts in each period.
@@ -108,10 +108,15 @@ fn push_host(
 {
     let name = host_name(alloc, network, host)?;
     let first = first_interface(network, host);
-    let table = shortest(alloc, graph, host)?;
-    push_table(network, host, first, name.as_slice(), table.as_slice(), out)?;
-    let default = gateway_route(alloc, network, blocks, host)?;
-    push_default(network, host, first, name.as_slice(), default, out)
+    let period = host_period(alloc, network, blocks, graph, tick, host)?;
+    push_table(
+        network,
+        host,
+        first,
+        name.as_slice(),
+        period.routes.as_slice(),
+        out,
+    )
 }
 
 /// Appends the lines of these routes of a host with this name and first interface.
@@ -131,26 +136,6 @@ fn push_table(
         push_route(network, host, first, name, *route, out)?;
     }
     Ok(())
-}
-
-/// Appends the line of the default route of a host with this name and first interface, where it has
-/// one.
-fn push_default(
-    network: &Network,
-    host: u32,
-    first: u32,
-    name: &[u8],
-    route: Option<Route>,
-    out: &mut Vec<u8>,
-) -> Result<(), Memory>
-    requires first { first ≡ first_interface network.now host }
-    requires name { name.now ≡ host_text network.now host }
-    ensures { OnOk result (out.new.items ≡ out.old.items ++ flat_map (route_line network.now host) (option_to_list route)) }
-{
-    match route {
-        Some(route) => push_route(network, host, first, name, route, out),
-        None => Ok(()),
-    }
 }
 
 /// Appends the line of a route of a host with this name and first interface.

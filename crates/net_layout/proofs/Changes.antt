@@ -111,7 +111,7 @@ with_link_adds : (ts : List ℕ) (link : LinkRow) → Adds ts (with_link ts link
 with_link_adds ts link = fold_adds with_down BeginsOrEnds with_down_adds link.downs ts
 
 -- each tick is below those behind it
-abbrev Rises : List ℕ → Type 0
+abbrev pub Rises : List ℕ → Type 0
 Rises [] = Unit {0}
 Rises (x ∷ xs) = ((y : ℕ) → Contains xs y → x < y) × Rises xs
 
@@ -144,12 +144,16 @@ each_below_next (x ∷ xs) h (suc k) lt = each_below_next xs h.1 k (omega arith)
 increasing : (xs : List ℕ) → Rises xs → IsStrictlyIncreasing xs
 increasing xs h k lt = let below = each_below_next xs h k (omega arith) in rw (add-one k) below
 
+pub rises : (network : Network) → Rises (periods_of network)
+unfolding periods_of
+rises network = fold_rises with_link with_link_rises network.links (0 ∷ []) (λ y inside. absurd (none_in y inside), tt)
+
 pub are_periods : (network : Network) → ArePeriods network (periods_of network)
 unfolding periods_of
 are_periods network =
     let all = fold_adds with_link ChangesAt with_link_adds network.links (0 ∷ []) in
     record {
-      rising = increasing (fold with_link (0 ∷ []) network.links) (fold_rises with_link with_link_rises network.links (0 ∷ []) (λ y inside. absurd (none_in y inside), tt));
+      rising = increasing (fold with_link (0 ∷ []) network.links) (rises network);
       zero = all.keeps 0 (head_in 0 []);
       changes = all.has;
       nothing_else = λ tick h. elim (all.only tick h) [

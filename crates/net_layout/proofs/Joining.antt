@@ -1,5 +1,5 @@
 -- One wire more, and one attachment more.
-use Rattle.std.proofs.Common.{◌≡◌, ℕ, ◌+◌, ◌^◌, ◌<◌, ◌≤◌, suc, lit≤, inl, inr, slice_index, List, [], ◌∷◌, ◌++◌, length, map, get_or, take, drop, refl, sym, ap, ◌∙◌, append_assoc, add-one}
+use Rattle.std.proofs.Common.{◌≡◌, ℕ, ◌+◌, ◌^◌, ◌<◌, ◌≤◌, suc, lit≤, inl, inr, slice_index, List, [], ◌∷◌, ◌++◌, length, map, get_or, take, drop, None, refl, sym, ap, ◌∙◌, append_assoc, add-one}
 use Rattle.std.specs.List.{remove, flat_map, All}
 use Rattle.std.proofs.lemmas.List.{get_or_past}
 use Rattle.std.proofs.lemmas.List.Elements.{All-nil, All-append, All-map}
@@ -27,13 +27,13 @@ map_on f old now xs i d lt e =
     ∙ ap (λ ys. old ++ ys) (sym (map_more f xs i d lt))
 
 abbrev pub no_wire : Wire
-no_wire = record { from = 0; to = 0; in_channel = 0; latency = 0; delay = 0; priority = 0 }
+no_wire = record { from = 0; to = 0; interfaces = None; in_channel = 0; latency = 0; delay = 0; priority = 0 }
 
 All_flat_map : {A B : Type 0} (P : B → Type 0) (f : A → List B) (xs : List A) → ((x : A) → All P (f x)) → All P (flat_map f xs)
 All_flat_map P f [] each = All-nil P
 All_flat_map P f (x ∷ xs) each = All-append P (f x) (flat_map f xs) (each x) (All_flat_map P f xs each)
 
-All_map : {A B : Type 0} (P : B → Type 0) (f : A → B) (xs : List A) → ((x : A) → P (f x)) → All P (map f xs)
+pub All_map : {A B : Type 0} (P : B → Type 0) (f : A → B) (xs : List A) → ((x : A) → P (f x)) → All P (map f xs)
 All_map P f xs each = All-map P f xs (λ k d lt. each (get_or xs k d))
 
 module _ (network : Network) (is : IsNetwork network) where

@@ -11,3 +11,10 @@ pub mod Finding
 pub mod Ends
 pub mod Outcomes
 mod Worked
+pub mod Gathering
+pub mod HostSessions
+pub mod HostPorts
+pub mod OutLists
+pub mod HostTables
+pub mod Addressing
+pub mod Limiting

@@ -16,9 +16,12 @@ link_read network l row lt e = get_or_read network.links l row lt e no_link
 pub net_read : (network : Network) (n : ℕ) (row : NetRow) → n < length network.nets → row ≡ get_or network.nets n row → row ≡ net_at network n
 net_read network n row lt e = get_or_read network.nets n row lt e no_net
 
+pub attachments_are : (network : Network) (l : ℕ) → l < length network.links → attachments_of (link_sizes network) l ≡ length (link_at network l).attached
+attachments_are network l lt = ap (λ (s : LinkSize). s.attachments) (get_or-map link_size network.links l no_link (record { net = 0; order = 0; attachments = 0 }) lt)
+
 -- each place of a link has an address
 pub address_room : (network : Network) (blocks : BlockLists) (l place : ℕ) → AreBlocks network blocks → l < length network.links → place < length (link_at network l).attached → place + 1 < 2 ^ (32 - (link_block blocks l).bits)
 address_room network blocks l place are lt there =
-    let size : attachments_of (link_sizes network) l ≡ length (link_at network l).attached = ap (λ (s : LinkSize). s.attachments) (get_or-map link_size network.links l no_link (record { net = 0; order = 0; attachments = 0 }) lt) in
+    let size = attachments_are network l lt in
     let room = are.room l (rw (length-map network.links link_size) lt) in
     omega (arith, room, size)

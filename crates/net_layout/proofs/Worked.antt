@@ -6,11 +6,15 @@ use Rattle.net_graph.specs.declared.rows.InterfaceRow.{InterfaceRow}
 use Rattle.net_graph.specs.declared.rows.LinkRow.{LinkRow}
 use Rattle.net_graph.specs.declared.rows.Down.{Down}
 use Rattle.net_graph.specs.declared.rows.SessionKind.TheVariants.{Client}
+use Rattle.ip_blocks.specs.Blocks.{blocks_of, parts_from, exponent_of, sum_in, offset_in, base_within}
 use Rattle.ssf_model.specs.declared.plan.Mapping.{Mapping}
 use Rattle.net_graph.specs.Networks.{no_net}
 use Rattle.net_layout.specs.Periods.{periods_of, is_up}
 use Rattle.net_layout.specs.Arms.{first_interface, place_of}
+use Rattle.net_layout.specs.Addresses.{network_blocks}
 use Rattle.net_layout.specs.Wiring.{first_channel, wires_of_link, wires_of, mappings_of}
+use Rattle.net_layout.specs.Ports.{ports_of, ins_of, owners_before, owners_of, outs_of, downs_of}
+use Rattle.net_layout.specs.Sessions.{timed_of, first_timer, timers_of}
 
 abbrev host : HostRow
 host = record { net = 0; id = 0; router = false; ospf = false; gateway = None; tcp = record { iss = 0; mss = 1000; receive = 32; send = 32; tries = 12; msl = 60000000000; frequency = 1000000000 } }
@@ -55,3 +59,36 @@ up_worked = refl
 
 down_worked : is_up (link 0 0 [] (record { from = 5; to = 9 } ∷ [])) 5 ≡ false
 down_worked = refl
+
+ports_worked : ports_of worked 1 ≡ 1 ∷ 2 ∷ []
+unfolding first_interface
+ports_worked = refl
+
+ins_worked : ins_of worked 1 ≡ 2 ∷ 3 ∷ 4 ∷ []
+unfolding first_interface
+ins_worked = refl
+
+owners_worked : owners_of worked ≡ 0 ∷ 0 ∷ 1 ∷ 1 ∷ 1 ∷ 2 ∷ 2 ∷ []
+unfolding owners_before first_interface
+owners_worked = refl
+
+-- the router sends to 10.0.0.5 by its second interface
+outs_worked : outs_of worked 2 ≡ (167772165, 6) ∷ []
+unfolding outs_of wires_of wires_of_link first_interface network_blocks blocks_of parts_from exponent_of sum_in offset_in base_within
+outs_worked = refl
+
+downs_worked : downs_of worked 3 ≡ (5, 9) ∷ (3, 5) ∷ []
+downs_worked = refl
+
+-- the start channels are 0 to 2, and the mappings' begin at 7
+timers_worked : timers_of worked 0 ≡ 3 ∷ 4 ∷ []
+unfolding first_timer
+timers_worked = refl
+
+later_timers_worked : timers_of worked 2 ≡ 6 ∷ []
+unfolding first_timer
+later_timers_worked = refl
+
+timed_worked : timed_of worked 0 ≡ false ∷ true ∷ true ∷ []
+unfolding first_interface
+timed_worked = refl

@@ -1,7 +1,6 @@
 -- The first fault that keeps a network from having a plan.
-use Rattle.std.specs.Prelude.{ℕ, ◌+◌, ◌*◌, ◌^◌, nat_lt, ◌==◌, Bool, false, ◌&&◌, ◌||◌, length, count_by, Option, Some, None, codes, if◌then◌else◌}
+use Rattle.std.specs.Prelude.{ℕ, ◌+◌, ◌*◌, ◌^◌, nat_lt, Bool, false, ◌||◌, length, count_by, Option, Some, None, codes, if◌then◌else◌}
 use Rattle.std.specs.List.{list_any}
-use Rattle.sim_base.specs.declared.records.ServerRow.{ServerRow}
 use Rattle.sim_base.specs.declared.records.ClientRow.{ClientRow}
 use Rattle.sim_base.specs.Traffic.{ticks_of}
 use Rattle.net_graph.specs.declared.rows.Network.{Network}
@@ -17,17 +16,12 @@ use Rattle.ssf_model.specs.Drafts.{MostChannels}
 use Rattle.net_graph.specs.Networks.{numbers, link_at}
 use Rattle.net_layout.specs.Periods.{periods_of}
 use Rattle.net_layout.specs.Addresses.{addresses_needed}
-use Rattle.net_layout.specs.Wiring.{is_client, first_channel, wires_of}
+use Rattle.net_layout.specs.Wiring.{first_channel, wires_of}
+use Rattle.net_layout.specs.Sessions.{client_count, server_count}
 
--- the client sessions of a host, and the servers of the patterns whose client it is
-abbrev pub clients_of : Network → ℕ → ℕ
-clients_of network h = count_by (λ (s : SessionRow). is_client s && s.host == h) network.sessions
-
-abbrev pub servers_of : Network → ℕ → ℕ
-servers_of network h = count_by (λ (s : ServerRow). s.client == h) network.servers
-
+-- the client sessions of a host times the servers that they go to
 unfoldable pub has_many_transfers : Network → Bool
-has_many_transfers network = list_any (λ h. nat_lt 50000 (clients_of network h * servers_of network h)) (numbers (length network.hosts))
+has_many_transfers network = list_any (λ h. nat_lt 50000 (client_count network h * server_count network h)) (numbers (length network.hosts))
 
 -- the hosts with an OSPF session times the links times the periods
 unfoldable pub has_many_routes : Network → Bool

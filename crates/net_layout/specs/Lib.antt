@@ -3,4 +3,9 @@ pub mod Addresses
 pub mod Arms
 pub mod Gateways
 pub mod Wiring
+pub mod Gathered
+pub mod Ports
+pub mod Sessions
 pub mod Faults
+pub mod HostRoutes
+pub mod Limits

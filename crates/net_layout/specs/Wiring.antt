@@ -2,7 +2,7 @@
 -- the hosts; their timer channels, host by host, one for the clock and one for each client session;
 -- then those of the mappings. In-channels are numbered host by host: one for each interface, then
 -- the poke. Each mapping has an out-channel of its own, of the mapping's number.
-use Rattle.std.specs.Prelude.{ℕ, ◌+◌, ◌*◌, ◌^◌, ◌≤◌, Bool, true, false, List, [], ◌∷◌, ◌++◌, length, map, slice_index, count_by}
+use Rattle.std.specs.Prelude.{ℕ, ◌+◌, ◌*◌, ◌^◌, ◌≤◌, Bool, true, false, List, [], ◌∷◌, ◌++◌, length, map, slice_index, count_by, Some, None}
 use Rattle.std.specs.List.{flat_map, remove}
 use Rattle.net_graph.specs.declared.rows.Network.{Network}
 use Rattle.net_graph.specs.declared.rows.SessionRow.{SessionRow}
@@ -21,15 +21,16 @@ in_channel network i = i + (interface_at network i).host
 abbrev pub poke_channel : Network → ℕ → ℕ
 poke_channel network h = first_interface network (h + 1) + h
 
--- a host pokes itself
+-- a host pokes itself, by no interface
 abbrev pub poke_wire : Network → ℕ → Wire
-poke_wire network h = record { from = h; to = h; in_channel = poke_channel network h; latency = 0; delay = 0; priority = 0 }
+poke_wire network h = record { from = h; to = h; interfaces = None; in_channel = poke_channel network h; latency = 0; delay = 0; priority = 0 }
 
 -- from an attachment of a link to another: the channel's delay is the one's latency, the mapping's that of the link
 abbrev pub link_wire : Network → ℕ → ℕ → ℕ → Wire
 link_wire network l a b = record {
   from = (interface_at network a).host;
   to = (interface_at network b).host;
+  interfaces = Some (a, b);
   in_channel = in_channel network b;
   latency = (interface_at network a).latency;
   delay = (link_at network l).delay;

@@ -7,7 +7,8 @@ ghost use Rattle.net_layout.specs.Periods.{periods_of};
 ghost use Rattle.net_graph.specs.declared.rows.InterfaceRow.{InterfaceRow};
 ghost use Rattle.net_graph.specs.declared.rows.SessionRow.{SessionRow};
 ghost use Rattle.net_graph.specs.declared.rows.HostRow.{HostRow};
-ghost use Rattle.net_layout.specs.Faults.{has_many_transfers, has_many_routes, has_long_delay, has_many_channels, clients_of, servers_of, is_slow, is_late_kind, is_long_way, is_long};
+ghost use Rattle.net_layout.specs.Sessions.{client_count, server_count};
+ghost use Rattle.net_layout.specs.Faults.{has_many_transfers, has_many_routes, has_long_delay, has_many_channels, is_slow, is_late_kind, is_long_way, is_long};
 
 use crate::wiring::{first_channel, is_client};
 use net_graph::{HostRow, Network, SessionKind, SessionRow};
@@ -51,7 +52,7 @@ fn are_many(clients: u32, servers: u32) -> bool
 fn client_counts(alloc: Global, network: &Network) -> Result<Vec<u32>, Memory>
     requires { IsNetwork network.now }
     ensures as_many { IfOk result (λ counts. length counts.items ≡ length network.now.hosts) }
-    ensures counts { IfOk result (λ counts. (h : ℕ) → h < length network.now.hosts → slice_index counts.items h ≡ clients_of network.now h) }
+    ensures counts { IfOk result (λ counts. (h : ℕ) → h < length network.now.hosts → slice_index counts.items h ≡ client_count network.now h) }
 {
     let mut counts = vec![in alloc; 0u32; network.hosts.len()]?;
     for session in network.sessions.as_slice() {
@@ -66,7 +67,7 @@ fn client_counts(alloc: Global, network: &Network) -> Result<Vec<u32>, Memory>
 fn server_counts(alloc: Global, network: &Network) -> Result<Vec<u32>, Memory>
     requires { IsNetwork network.now }
     ensures as_many { IfOk result (λ counts. length counts.items ≡ length network.now.hosts) }
-    ensures counts { IfOk result (λ counts. (h : ℕ) → h < length network.now.hosts → slice_index counts.items h ≡ servers_of network.now h) }
+    ensures counts { IfOk result (λ counts. (h : ℕ) → h < length network.now.hosts → slice_index counts.items h ≡ server_count network.now h) }
 {
     let mut counts = vec![in alloc; 0u32; network.hosts.len()]?;
     for server in network.servers.as_slice() {

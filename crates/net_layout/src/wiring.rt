@@ -12,13 +12,14 @@ use sim_base::Memory;
 use ssf_model::Mapping;
 use std::alloc::Global;
 
-/// A mapping before it has a number: the hosts from which and to which it leads, the number of the
-/// in-channel, the delay of its out-channel (the sender's latency) and its own delay in ticks, and
-/// its priority.
+/// A mapping before it has a number: the hosts from which and to which it leads, the interfaces that
+/// send and receive on it (a poke has none), the number of the in-channel, the delay of its
+/// out-channel (the sender's latency) and its own delay in ticks, and its priority.
 #[derive(Clone, Copy, Debug, PartialEq, Eq)]
 pub struct Wire {
     pub from: u32,
     pub to: u32,
+    pub interfaces: Option<(u32, u32)>,
     pub in_channel: u32,
     pub latency: u64,
     pub delay: u64,
@@ -65,6 +66,7 @@ fn own_poke(network: &Network, host: u32) -> Wire
     Wire {
         from: host,
         to: host,
+        interfaces: None,
         in_channel,
         latency: 0,
         delay: 0,
@@ -137,6 +139,7 @@ fn wire_between(network: &Network, link: usize, from: u32, to: u32) -> Wire
     Wire {
         from: sender.host,
         to: receiver.host,
+        interfaces: Some((from, to)),
         in_channel: to + receiver.host,
         latency: sender.latency,
         delay: link.delay,

@@ -1,4 +1,4 @@
-use Rattle.net_build.proofs.Channels.{few_channels}
+use Rattle.net_layout.proofs.Limiting.{few_channels}
 use Rattle.net_build.proofs.text.whole_text.Goals as goal
 
 pub push_mappings-requires-clause-few : goal.push_mappings-requires-clause-few
