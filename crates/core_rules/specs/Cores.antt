@@ -1,5 +1,5 @@
 -- All parts of a run as contracts see them, and when they are sound for the run of a plan.
-use Rattle.std.specs.Prelude.{ℕ, ◌≡◌, ◌≤◌, Bool, cond, nat_eq, List, [], ◌∷◌, length, map, take, Option, Some, None, slice_get}
+use Rattle.std.specs.Prelude.{ℕ, ◌≡◌, ◌≤◌, Bool, true, List, [], length, map, take, Option, Some, None, slice_get}
 use Rattle.event_order.specs.declared.key.Key.{Key}
 use Rattle.event_order.specs.Pending.{Among}
 use Rattle.ssf_model.specs.declared.event.Event.{Event}
@@ -44,14 +44,20 @@ no_line = record { moment = 0; executed = 0; pending = []; entered = 0; arrival 
 abbrev pub channel_in : CrossEnd → ℕ
 channel_in end = end.channel
 
+abbrev pub mail_or : {P : Type 0} → ℕ → Option (Mails P) → MailOf (Event P)
+mail_or c None = first_mail
+mail_or c (Some mail) = mail_as (mail_at mail c)
+
+-- the ends are those of the net's channels between timelines, in the rising order of these
+pub record AreEndsOf (net : Net) (ends : List CrossEnd) : Type 0 where
+  pub rising : AreRising (map channel_in ends)
+  pub each : (e : CrossEnd) → Among e ends → (net.cross e.channel ≡ true) × (net.sender e.channel ≡ e.sender) × (net.receiver e.channel ≡ e.receiver)
+  pub all : (c : ℕ) → net.cross c ≡ true → (e : CrossEnd) × Among e ends × (e.channel ≡ c)
+
 module _ {B S P : Type 0} where
   abbrev pub line_or : ℕ → Option (TimelineOf B S P) → Line (Event P)
   line_or moment None = no_line
   line_or moment (Some t) = line_of moment t
-
-  abbrev pub mail_or : ℕ → Option (Mails P) → MailOf (Event P)
-  mail_or c None = first_mail
-  mail_or c (Some mail) = mail_as (mail_at mail c)
 
   -- all parts, where timeline i stands at the moment `at i` of the run. The mail on a channel is with its receiver
   abbrev pub core_as : Net → (ℕ → ℕ) → CoreView B S P → CoreOf (Event P)
@@ -73,12 +79,6 @@ module _ {B S P : Type 0} where
     pub only : (c : ℕ) → Among c b.channels → s.net.cross c ≡ true
     pub counts : length b.counts ≡ length b.channels
     pub sent : length b.sent ≡ length b.channels
-
-  -- the ends are those of the net's channels between timelines, in the rising order of these
-  pub record AreEndsOf (net : Net) (ends : List CrossEnd) : Type 0 where
-    pub rising : AreRising (map channel_in ends)
-    pub each : (e : CrossEnd) → Among e ends → (net.cross e.channel ≡ true) × (net.sender e.channel ≡ e.sender) × (net.receiver e.channel ≡ e.receiver)
-    pub all : (c : ℕ) → net.cross c ≡ true → (e : CrossEnd) × Among e ends × (e.channel ≡ c)
 
   -- t is timeline i of these parts, and sound. It has the budget of all, an end for each of its mappings, at its place at
   -- the barrier, and its own mail

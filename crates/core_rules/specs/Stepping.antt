@@ -26,6 +26,10 @@ abbrev pub end_at : ℕ → List CrossEnd → Option CrossEnd
 end_at c [] = None
 end_at c (e ∷ es) = cond (nat_eq e.channel c) (Some e) (end_at c es)
 
+-- the barrier has not ended, and all timelines have reported
+abbrev pub can_cross : BarrierFields → Bool
+can_cross b = not b.ended && is_none (first_without 0 b.reports)
+
 module _ {B S P : Type 0} where
   abbrev pub can_execute_in : CoreView B S P → ℕ → Bool
   can_execute_in core i = passes (slice_get core.timelines i) (λ t. is_none (refusal t))
@@ -45,10 +49,6 @@ module _ {B S P : Type 0} where
 
   abbrev pub can_report_in : CoreView B S P → ℕ → Bool
   can_report_in core i = passes (slice_get core.timelines i) (λ t. can_report t i core.barrier)
-
-  -- the barrier has not ended, and all timelines have reported
-  abbrev pub can_cross : BarrierFields → Bool
-  can_cross b = not b.ended && is_none (first_without 0 b.reports)
 
   abbrev pub is_enabled : CoreView B S P → Step → Bool
   is_enabled core (Execute i) = can_execute_in core i
