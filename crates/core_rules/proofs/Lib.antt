@@ -1,0 +1,9 @@
+pub mod Lists
+pub mod Closures
+pub mod Parts
+pub mod Executes
+pub mod Posts
+pub mod Takes
+pub mod Crosses
+pub mod Leads
+pub mod Begins
