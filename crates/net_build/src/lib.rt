@@ -14,5 +14,6 @@ mod routes;
 mod text;
 
 pub use built::Built;
+pub use names::host_name;
 pub use ring::{RingCounts, ring_counts, ring_plan, ring_text};
 pub use text::plan_text;

@@ -26,9 +26,12 @@ pub(crate) fn interface_name(
     name(alloc, network, row.host, Some(row.id))
 }
 
-/// The text of a host.
+/// The printed name of a host: the ids of the Nets in which it stands, and then its own.
+///
+/// # Errors
+/// `Memory` where there was no memory.
 #[tactic(auto, unfolding(crate::specs::PlanText::host_text))]
-pub(crate) fn host_name(alloc: Global, network: &Network, host: u32) -> Result<Vec<u8>, Memory>
+pub fn host_name(alloc: Global, network: &Network, host: u32) -> Result<Vec<u8>, Memory>
     requires network { IsNetwork network.now }
     requires host { host < length network.now.hosts }
     ensures { IfOk result (λ name. name.items ≡ host_text network.now host) }
