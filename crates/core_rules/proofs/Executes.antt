@@ -206,7 +206,7 @@ module _ {B S P : Type 0} (plan : Plan B S P) (line : ℕ → ℕ) (s : Scene (S
   latest_long ps (c ∷ cs) [] h = h
   latest_long ps (c ∷ cs) (n ∷ ns) h = (let rest = latest_long ps cs ns (omega arith) in ap (λ k. suc k) rest)
 
-  barrier_for : (i : ℕ) (t : TimelineOf B S P) → slice_get core.timelines i ≡ Some t → IsBarrierFor s i t core.barrier
+  pub barrier_for : (i : ℕ) (t : TimelineOf B S P) → slice_get core.timelines i ≡ Some t → IsBarrierFor s i t core.barrier
   barrier_for i t own = record {
     ends = (sound.each i t own).ends;
     each = sound.barrier.sent;

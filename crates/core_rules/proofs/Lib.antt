@@ -7,3 +7,4 @@ pub mod Takes
 pub mod Crosses
 pub mod Leads
 pub mod Begins
+pub mod Reading

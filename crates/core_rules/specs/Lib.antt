@@ -2,3 +2,4 @@ pub mod Cores
 pub mod Stepping
 pub mod Leading
 pub mod Beginning
+pub mod Reading
