@@ -1,8 +1,6 @@
-//! Tests of the commands, over files and sinks in memory. They stand above `ssfnet_top`, since a crate with
-//! tests is proved twice.
+//! Tests of the commands over files and sinks that fail. They stand above `ssfnet_top`, since a crate with
+//! tests is proved twice; cases without failures stand in the folder `tools/cases`.
 #![tactic(auto)]
 
 #[cfg(test)]
 mod commands;
-#[cfg(test)]
-mod networks;

@@ -1,5 +1,5 @@
-//! Spans and faults of worked texts.
-use dml_lexer::{LexFault, Token, TokenKind, lex};
+//! Spans of the tokens of worked texts.
+use dml_lexer::{Token, TokenKind, lex};
 use std::test::Fail;
 
 #[test]
@@ -58,19 +58,4 @@ fn a_text_of_many_tokens(rt: HostRuntime) -> Result<(), Fail> {
     };
     assert!(rt; tokens.last() == Some(&last));
     Ok(())
-}
-
-#[test]
-fn the_first_fault_is_answered(rt: HostRuntime) {
-    let rows: [(&[u8], LexFault); 6] = [
-        (b"\x01", LexFault::BadByte(0)),
-        (b"a\x7f\"", LexFault::BadByte(1)),
-        (b"a \"x", LexFault::OpenQuote(2)),
-        (b"\"a\"\"\x01", LexFault::OpenQuote(3)),
-        (b"# \x01\x00\n\x0b", LexFault::BadByte(5)),
-        (b"a\x00b \"", LexFault::BadByte(1)),
-    ];
-    for (bytes, fault) in rows {
-        assert_eq!(rt; lex(rt.alloc(), bytes).err(), Some(fault), "{bytes:?}");
-    }
 }
