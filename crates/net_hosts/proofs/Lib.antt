@@ -1,0 +1,6 @@
+pub mod Moving
+pub mod Joining
+pub mod Ranges
+pub mod Channels
+pub mod Addressing
+mod Worked

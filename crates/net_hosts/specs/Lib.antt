@@ -1,0 +1,3 @@
+pub mod HostRowsOf
+pub mod HostOuts
+pub mod Left

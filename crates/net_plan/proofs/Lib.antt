@@ -1,0 +1,4 @@
+pub mod Growing
+pub mod Owning
+pub mod Making
+pub mod Refusing
