@@ -8,3 +8,4 @@ pub mod Crosses
 pub mod Leads
 pub mod Begins
 pub mod Reading
+pub mod Ending

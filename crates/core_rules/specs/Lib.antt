@@ -3,3 +3,4 @@ pub mod Stepping
 pub mod Leading
 pub mod Beginning
 pub mod Reading
+pub mod Ending

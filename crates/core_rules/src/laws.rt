@@ -36,6 +36,7 @@ ghost use Rattle.core_rules.specs.Cores.{CoreView, core_as, IsSoundFor, IsCoreOf
 ghost use Rattle.core_rules.specs.Stepping.{end_at, is_enabled, IsMade, IsSpentIn, without_below};
 ghost use Rattle.core_rules.specs.Leading.{IsCoreStep, AreCoreSteps};
 ghost use Rattle.core_rules.specs.Beginning.{IsFirstCore};
+ghost use Rattle.core_rules.specs.Ending.{steps_left};
 ghost use Rattle.core_rules.specs.Reading.{safe_bound_in, BudgetEndsIn, IsSpentAt};
 
 use ssf_model::Behaviour;
@@ -167,4 +168,11 @@ pub fn budgets_end_at_the_safe_bound<B: Behaviour>()
     ensures least { (b : B) → OfEachSoundCore {B = B} (B.valid b) (B.carried b) (B.reaction b) (λ plan line s core at v.
         (i : ℕ) (q : BudgetEndsIn core i) (event : EventValue B.Payload) (rest : List (EventValue B.Payload)) → q.timeline.pending ≡ event ∷ rest
         → (j k : ℕ) (e : EventValue B.Payload) → IsOwnEvent s j core.budget k e → event.key.time ≤ e.key.time) }
+{}
+
+/// Each step leaves less to do: a number that is told by the parts alone. So steps come to an
+/// end.
+pub fn made_steps_leave_less<B: Behaviour>()
+    ensures { (b : B) (step : StepValue) (core after : CoreView B B.State B.Payload)
+        → IsCoreOfRun (B.valid b) (B.carried b) (B.reaction b) core → IsMade (B.reaction b) step core after → steps_left after < steps_left core }
 {}
