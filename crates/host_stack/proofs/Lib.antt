@@ -1,0 +1,6 @@
+mod Arriving
+mod Looping
+mod RoleCases
+mod Sending
+mod Starting
+mod Valid
