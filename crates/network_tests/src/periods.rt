@@ -1,4 +1,4 @@
-//! The periods of small networks, and when their links are up.
+//! Periods of a link that is down for longer than any model can say.
 
 use net_graph::{Down, LinkRow, Network};
 use net_layout::{has_downs, is_up, periods};
@@ -47,39 +47,13 @@ fn two_links(
 }
 
 #[test]
-fn periods_begin_where_downs_begin_or_end(rt: HostRuntime) -> Result<(), Fail> {
-    let rows = [
-        ([].as_slice(), [].as_slice(), [0].as_slice()),
-        (&[(5, 9), (3, 5)], &[], &[0, 3, 5, 9]),
-        (&[], &[(1, 2)], &[0, 1, 2]),
-        (&[(2, 8)], &[(0, 4), (4, 8)], &[0, 2, 4, 8]),
-        (&[(0, u64::MAX)], &[(7, 9)], &[0, 7, 9, u64::MAX]),
-    ];
-    for (first, second, wanted) in rows {
-        let network = two_links(rt.alloc(), first, second)?;
-        let ticks = periods(rt.alloc(), &network)?;
-        assert_eq!(rt; ticks.as_slice(), wanted);
-        assert_eq!(rt; has_downs(&network), ticks.len() > 1);
-    }
-    Ok(())
-}
-
-#[test]
-fn a_link_is_up_outside_its_downs(rt: HostRuntime) -> Result<(), Fail> {
-    let link = link_of(rt.alloc(), &[(6, 9), (3, 5)])?;
-    let rows = [
-        (0, true),
-        (2, true),
-        (3, false),
-        (4, false),
-        (5, true),
-        (6, false),
-        (8, false),
-        (9, true),
-        (u64::MAX, true),
-    ];
-    for (tick, up) in rows {
-        assert_eq!(rt; is_up(&link, tick), up);
-    }
+fn a_link_may_be_down_up_to_the_last_tick(rt: HostRuntime) -> Result<(), Fail> {
+    let network = two_links(rt.alloc(), &[(0, u64::MAX)], &[(7, 9)])?;
+    let ticks = periods(rt.alloc(), &network)?;
+    assert!(rt; ticks.as_slice() == [0, 7, 9, u64::MAX].as_slice());
+    assert!(rt; has_downs(&network));
+    let link = link_of(rt.alloc(), &[(0, u64::MAX)])?;
+    assert!(rt; !is_up(&link, u64::MAX - 1));
+    assert!(rt; is_up(&link, u64::MAX));
     Ok(())
 }
