@@ -98,15 +98,15 @@ none_many (suc n) o = (let rest = none_many n o in ap (λ k. suc k) rest)
 
 -- ---- crossings
 
-not_true : (b : Bool) → not b ≡ true → b ≡ false
+pub not_true : (b : Bool) → not b ≡ true → b ≡ false
 not_true true h = absurd (cc)
 not_true false h = refl
 
-and_both : (a b : Bool) → (a && b) ≡ true → (a ≡ true) × (b ≡ true)
+pub and_both : (a b : Bool) → (a && b) ≡ true → (a ≡ true) × (b ≡ true)
 and_both true b h = (refl, h)
 and_both false b h = absurd (cc)
 
-none_of : {T : Type 0} (o : Option T) → is_none o ≡ true → o ≡ None
+pub none_of : {T : Type 0} (o : Option T) → is_none o ≡ true → o ≡ None
 none_of None h = refl
 none_of (Some x) h = absurd (cc)
 
