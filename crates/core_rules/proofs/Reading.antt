@@ -1,5 +1,5 @@
 -- What sound parts mean for those who make calls and who read.
-use Rattle.std.proofs.Common.{◌≡◌, ℕ, zero, suc, ◌+◌, ◌<◌, ◌≤◌, ◌⊎◌, min, Bool, true, false, cond, not, ◌&&◌, nat_eq, List, [], ◌∷◌, ◌++◌, length, map, refl, sym, ap, ◌∙◌, subst, inl, inr, arith, eq-eqb, eqb-true, Option, Some, None, is_none, slice_get, slice_index, slice_index_or}
+use Rattle.std.proofs.Common.{◌≡◌, ℕ, zero, suc, ◌+◌, ◌<◌, ◌≤◌, ◌⊎◌, Bool, true, false, not, ◌&&◌, nat_eq, List, [], ◌∷◌, length, map, refl, sym, ap, ◌∙◌, subst, inl, inr, arith, eq-eqb, eqb-true, Option, Some, None, is_none, slice_get, slice_index}
 use Rattle.std.specs.List.{All, Contains}
 use Rattle.event_order.specs.declared.key.Key.{Key}
 use Rattle.event_order.specs.Order.{IsBefore}
@@ -12,46 +12,45 @@ use Rattle.ssf_model.specs.Reaction.{Reaction, Validity, KeepsValid, LatestTime}
 use Rattle.ssf_model.specs.Deliver.{IsModest}
 use Rattle.ssf_model.specs.Run.{States, Fits}
 use Rattle.ssf_model.specs.Scene.{Scene, Net, scene_of, event_at, time_of}
-use Rattle.ssf_model.specs.Truth.{is_on_line, IsTrueParcel, HasReached}
+use Rattle.ssf_model.specs.Truth.{is_on_line, HasReached}
 use Rattle.sync_rules.specs.Parts.{Line, MailOf, CoreOf}
 use Rattle.sync_rules.specs.Bounds.{IsInto, IsOutOf, bound_of, low_of, safe_bound}
 use Rattle.sync_rules.specs.Shared.{IsShared}
-use Rattle.sync_rules.specs.Sound.{IsSoundMail, IsSoundCore, IsCounted, IsOwnEvent}
+use Rattle.sync_rules.specs.Sound.{IsCounted, IsOwnEvent}
 use Rattle.sync_rules.specs.Steps.{CanExecute, CanPost, CanTake, CanEnter, CanReport, CanCross, IsStep, IsOver, BudgetEndsAt}
 use Rattle.sync_rules.specs.Steps.IsStep.{executes, posts, takes, enters, reports, crosses}
-use Rattle.sync_rules.proofs.Bounds.{safe_below, safe_above, safe_cases, safe_most}
+use Rattle.sync_rules.proofs.Bounds.{safe_below, safe_above, safe_most}
 use Rattle.sync_rules.proofs.Stuck.{never_stuck}
 use Rattle.sync_rules.proofs.Wholes.{safe_is_done, ended_is_done, budget_is}
 use Rattle.timeline_parts.specs.Tables.{numbers_of, AreRising}
 use Rattle.timeline_parts.specs.Parts.{channel_of}
 use Rattle.timeline_parts.specs.Settling.{AreNew}
 use Rattle.timeline.specs.View.{TimelineOf, key_of}
-use Rattle.timeline.specs.Holding.{bound_in, low_in, taken_of, is_over}
+use Rattle.timeline.specs.Holding.{bound_in, low_in, is_over}
 use Rattle.timeline.specs.Executing.{refusal, MayRun}
 use Rattle.timeline.specs.Moving.{can_enter}
 use Rattle.timeline.specs.Lines.{line_of, posted_of}
-use Rattle.timeline.specs.Sound.{IsRunOnLines, IsSoundTimeline, CountsAt, HasNext}
+use Rattle.timeline.specs.Sound.{IsRunOnLines, CountsAt, HasNext}
 use Rattle.timeline.proofs.Executed.{keys, may_run, can_execute, may_execute, is_over_here, is_over_if, of_history}
 use Rattle.timeline.proofs.Free.{over_is, next_low}
 use Rattle.timeline.proofs.Moved.{take_late, take_after, may_enter, enters_if_may}
 use Rattle.timeline.proofs.TellsBounds.{bound_is, low_is, number_among, item_among}
-use Rattle.appointments.specs.Mails.{ChannelMail, Mails, mail_at}
+use Rattle.appointments.specs.Mails.{Mails, mail_at}
 use Rattle.appointments.specs.Mails.{posted_of as posted_to}
 use Rattle.appointments.specs.Posts.{taken_parcel}
-use Rattle.barrier_window.specs.BarrierFields.{BarrierFields}
 use Rattle.barrier_window.specs.Crossings.{first_without}
 use Rattle.plan_shares.specs.declared.crosses.CrossEnd.{CrossEnd}
 use Rattle.sync_steps.specs.declared.steps.Step.{Step}
 use Rattle.sync_steps.specs.declared.steps.Step.TheVariants.{Execute, Post, Take, Enter, Report, Cross}
 use Rattle.sync_steps.specs.Between.{HasItsEnds, IsMailOf, can_post, can_take, can_report, events_on, taken_on}
-use Rattle.sync_steps.specs.Sounds.{mail_as, AreSoundMails, number_of, barrier_as, HaveTheirPlaces, IsBarrierFor}
+use Rattle.sync_steps.specs.Sounds.{mail_as, AreSoundMails, number_of, barrier_as}
 use Rattle.sync_steps.proofs.SoundPairs.{out_known, post_enabled, post_possible, mail_new, take_enabled, take_possible, outs_contained, report_enabled, report_possible}
 use Rattle.sync_steps.proofs.Taking.{contained}
-use Rattle.core_rules.specs.Cores.{CoreView, channel_in, line_or, core_as, IsPartOf, IsSoundFor}
+use Rattle.core_rules.specs.Cores.{CoreView, channel_in, core_as, IsPartOf, IsSoundFor}
 use Rattle.core_rules.specs.Stepping.{passes, end_at, can_execute_in, can_post_to, can_post_in, can_take_in, can_enter_in, can_report_in, can_cross, is_enabled}
 use Rattle.core_rules.specs.Leading.{MayStep}
 use Rattle.core_rules.specs.Reading.{least_low_in, safe_bound_in, BudgetEndsIn, IsSpentAt}
-use Rattle.core_rules.proofs.Lists.{not_equal, differ_test, one_of, none_some, get_known, got_at}
+use Rattle.core_rules.proofs.Lists.{differ_test, one_of, none_some, got_at}
 use Rattle.core_rules.proofs.Parts.{end_found, timeline_known, timeline_there, mail_there, line_here, mail_here, own_mails, joined}
 use Rattle.core_rules.proofs.Executes.{barrier_for}
 use Rattle.core_rules.proofs.Crosses.{all_told, none_without, not_true, and_both, none_of}
