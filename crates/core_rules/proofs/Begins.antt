@@ -1,5 +1,5 @@
 -- Parts that have a plan and have done nothing are sound.
-use Rattle.std.proofs.Common.{◌≡◌, ℕ, zero, suc, ◌+◌, ◌<◌, ◌≤◌, ◌⊎◌, Bool, true, false, cond, not, ◌&&◌, nat_eq, List, [], ◌∷◌, length, map, replicate, refl, sym, ap, ◌∙◌, subst, inl, inr, arith, eq-eqb, eqb-true, Option, Some, None, option_map, unwrap_or, slice_get}
+use Rattle.std.proofs.Common.{◌≡◌, ℕ, zero, suc, ◌+◌, ◌<◌, ◌≤◌, Bool, true, false, cond, not, ◌&&◌, nat_eq, List, [], ◌∷◌, length, map, replicate, refl, sym, ap, ◌∙◌, subst, inl, inr, arith, eq-eqb, eqb-true, Option, Some, None, option_map, unwrap_or, slice_get}
 use mathlib.Core.Path.{fun_ext}
 use Rattle.std.specs.List.{filter, enumerate_from}
 use Rattle.event_order.specs.declared.key.Key.{Key}
@@ -29,16 +29,15 @@ use Rattle.timeline_parts.specs.Sending.{count_of}
 use Rattle.timeline_parts.specs.Tables.{numbers_of, AreRising, item_at}
 use Rattle.timeline_parts.proofs.Tables.{known_item}
 use Rattle.timeline.specs.View.{TimelineOf, mapping_of}
-use Rattle.timeline.specs.Holding.{taken_of}
 use Rattle.timeline.specs.Lines.{line_of as line_at}
 use Rattle.timeline.specs.Opening.{first_in, IsFirst}
-use Rattle.timeline.specs.Sound.{is_inside, is_outgoing, IsShareOf, IsSoundTimeline, IsRunOnLines}
+use Rattle.timeline.specs.Sound.{is_outgoing, IsShareOf, IsSoundTimeline, IsRunOnLines}
 use Rattle.timeline.proofs.Kept.{numbers_first_in, numbers_first_out}
 use Rattle.timeline.proofs.Opened.{first_as, first_sound}
 use Rattle.alignment.specs.Alignment.{line_of, timeline_count}
 use Rattle.alignment.specs.Classes.{is_cross, least_windowed}
 use Rattle.plan_shares.specs.declared.crosses.CrossEnd.{CrossEnd}
-use Rattle.plan_shares.specs.Shares.{is_on, cross_of, crosses_of, into, out_of, share_of, end_of, channels_on, counted_in}
+use Rattle.plan_shares.specs.Shares.{is_on, cross_of, crosses_of, share_of, end_of, channels_on}
 use Rattle.plan_shares.specs.Laws.{IsOn, IsPartIn}
 use Rattle.plan_shares.proofs.Between.{share_in_net, lookahead_same}
 use Rattle.plan_shares.proofs.Channels.{writer_counted, counted_as}
@@ -47,11 +46,11 @@ use Rattle.plan_shares.proofs.InOrder.{crosses_rise, entity_at, share_in_order}
 use Rattle.appointments.specs.Mails.{ChannelMail, Mails, mail_at, row_at, no_mail, first_mails}
 use Rattle.barrier_window.specs.BarrierFields.{BarrierFields}
 use Rattle.barrier_window.specs.Crossings.{first_barrier}
-use Rattle.sync_steps.specs.Between.{HasItsEnds, IsMailOf}
+use Rattle.sync_steps.specs.Between.{IsMailOf}
 use Rattle.sync_steps.specs.Sounds.{mail_as, number_of, has_least, least_in, barrier_as, HaveTheirPlaces}
 use Rattle.core_rules.specs.Cores.{CoreView, channel_in, line_or, mail_or, core_as, IsBarrierOf, AreEndsOf, IsPartOf, IsSoundFor, IsCoreOfRun}
 use Rattle.core_rules.specs.Beginning.{IsFirstCore}
-use Rattle.core_rules.proofs.Lists.{none_some, one_of, get_known, got_at, get_map}
+use Rattle.core_rules.proofs.Lists.{none_some, one_of, got_at, get_map}
 
 -- ---- lists
 

@@ -1,5 +1,5 @@
 -- Some steps of the rules one after the other, and all mail of a timeline taken channel by channel.
-use Rattle.std.proofs.Common.{◌≡◌, ℕ, zero, suc, ◌+◌, ◌<◌, ◌≤◌, ◌⊎◌, max, true, false, cond, nat_eq, List, [], ◌∷◌, length, refl, sym, ap, ◌∙◌, subst, inl, inr, arith, eqb-true}
+use Rattle.std.proofs.Common.{◌≡◌, ℕ, zero, suc, ◌+◌, ◌<◌, ◌≤◌, ◌⊎◌, max, true, nat_eq, List, [], ◌∷◌, length, refl, sym, ap, ◌∙◌, subst, inl, inr, arith, eqb-true}
 use mathlib.Core.Path.{fun_ext}
 use Rattle.event_order.specs.Pending.{Among, put_all}
 use Rattle.event_order.proofs.Pending.{test_cases}
@@ -9,10 +9,9 @@ use Rattle.ssf_model.specs.Truth.{IsStretch}
 use Rattle.sync_rules.specs.Parts.{Line, MailOf, CoreOf, put_at}
 use Rattle.sync_rules.specs.Shared.{IsShared}
 use Rattle.sync_rules.specs.Sound.{IsSoundCore}
-use Rattle.sync_rules.specs.Steps.{CanTake, IsStep, taken_line, taken_mail, taken_core}
+use Rattle.sync_rules.specs.Steps.{CanTake, taken_line, taken_mail, taken_core}
 use Rattle.sync_rules.specs.Steps.IsStep.{takes}
 use Rattle.sync_rules.proofs.Cores.{take_keeps, step_keeps}
-use Rattle.sync_rules.proofs.Bounds.{put_else}
 use Rattle.core_rules.specs.Leading.{AreSteps}
 
 put_same_at : {T : Type 0} (n : ℕ) (g : ℕ → T) (k : ℕ) → put_at n (g n) g k ≡ g k

@@ -1,8 +1,7 @@
 -- The barrier is crossed.
-use Rattle.std.proofs.Common.{◌≡◌, ℕ, zero, suc, ◌+◌, ◌-◌, ◌^◌, ◌<◌, ◌≤◌, ◌⊎◌, min, Bool, true, false, cond, not, nat_eq, nat_le, ◌&&◌, List, [], ◌∷◌, length, replicate, refl, sym, ap, ◌∙◌, subst, inl, inr, arith, Option, Some, None, is_none, slice_get}
-use Rattle.event_order.specs.Pending.{Among}
+use Rattle.std.proofs.Common.{◌≡◌, ℕ, zero, suc, ◌+◌, ◌<◌, ◌≤◌, ◌⊎◌, Bool, true, false, not, nat_le, ◌&&◌, List, [], ◌∷◌, length, replicate, refl, sym, ap, ◌∙◌, subst, inl, inr, arith, Option, Some, None, is_none, slice_get}
 use Rattle.event_order.proofs.Pending.{test_cases}
-use Rattle.event_order.proofs.Steps.{lt_or_ge, le_true, le_test, le_false}
+use Rattle.event_order.proofs.Steps.{lt_or_ge, le_true, le_test}
 use Rattle.sim_base.specs.MemoryObjects.{risen}
 use Rattle.ssf_model.specs.declared.event.Event.{Event}
 use Rattle.ssf_model.specs.declared.plan.Plan.{Plan}
@@ -10,11 +9,10 @@ use Rattle.ssf_model.specs.Reaction.{LatestTime}
 use Rattle.ssf_model.specs.Run.{States}
 use Rattle.ssf_model.specs.Scene.{Scene}
 use Rattle.ssf_model.specs.Truth.{IsWindow, next_window}
-use Rattle.sync_rules.specs.Parts.{Line, MailOf, BarrierOf, CoreOf}
+use Rattle.sync_rules.specs.Parts.{CoreOf}
 use Rattle.sync_rules.specs.Shared.{IsShared}
-use Rattle.sync_rules.specs.Sound.{IsSoundCore}
-use Rattle.sync_rules.specs.Steps.{CanCross, IsCrossing, IsNextRound, IsStep, ended_barrier}
-use Rattle.sync_rules.specs.Steps.{least_report as least_by_rule, with_barrier as with_barrier_of}
+use Rattle.sync_rules.specs.Steps.{CanCross, IsCrossing, IsNextRound}
+use Rattle.sync_rules.specs.Steps.{least_report as least_by_rule}
 use Rattle.sync_rules.specs.Steps.IsStep.{crosses}
 use Rattle.sync_rules.proofs.Windows.{window_later, window_most}
 use Rattle.sync_rules.proofs.Reports.{report_below, report_cases}
@@ -22,10 +20,9 @@ use Rattle.timeline.specs.View.{key_of}
 use Rattle.barrier_window.specs.BarrierFields.{BarrierFields}
 use Rattle.barrier_window.specs.Crossings.{first_without, least_report, crossing_at, crossing, crossed_to, after_crossing}
 use Rattle.barrier_window.specs.declared.barrier.Crossing.{Crossing}
-use Rattle.barrier_window.specs.declared.barrier.Crossing.TheVariants.{Crossed, Waiting, Ended}
 use Rattle.sync_steps.specs.Sounds.{has_least, least_in, barrier_as}
 use Rattle.core_rules.specs.Cores.{CoreView, core_as, IsBarrierOf, IsSoundFor}
-use Rattle.core_rules.specs.Stepping.{can_cross, with_barrier, IsCrossedIn}
+use Rattle.core_rules.specs.Stepping.{with_barrier, IsCrossedIn}
 use Rattle.core_rules.specs.Leading.{LeadsTo}
 use Rattle.core_rules.proofs.Executes.{step_leads, barrier_whole}
 
@@ -98,15 +95,15 @@ none_many (suc n) o = (let rest = none_many n o in ap (λ k. suc k) rest)
 
 -- ---- crossings
 
-not_true : (b : Bool) → not b ≡ true → b ≡ false
+pub not_true : (b : Bool) → not b ≡ true → b ≡ false
 not_true true h = absurd (cc)
 not_true false h = refl
 
-and_both : (a b : Bool) → (a && b) ≡ true → (a ≡ true) × (b ≡ true)
+pub and_both : (a b : Bool) → (a && b) ≡ true → (a ≡ true) × (b ≡ true)
 and_both true b h = (refl, h)
 and_both false b h = absurd (cc)
 
-none_of : {T : Type 0} (o : Option T) → is_none o ≡ true → o ≡ None
+pub none_of : {T : Type 0} (o : Option T) → is_none o ≡ true → o ≡ None
 none_of None h = refl
 none_of (Some x) h = absurd (cc)
 

@@ -1,6 +1,5 @@
 -- Steps on all parts leave less to do.
-use Rattle.std.proofs.Common.{◌≡◌, ℕ, zero, suc, ◌+◌, ◌-◌, ◌*◌, ◌^◌, ◌<◌, ◌≤◌, ◌⊎◌, Bool, true, false, cond, nat_eq, nat_lt, List, [], ◌∷◌, length, map, refl, sym, ap, ◌∙◌, subst, inl, inr, arith, eq-eqb, eqb-true, suc-mul, Option, Some, None, slice_get}
-use mathlib.Core.Path.{fun_ext}
+use Rattle.std.proofs.Common.{◌≡◌, ℕ, zero, suc, ◌+◌, ◌-◌, ◌*◌, ◌^◌, ◌<◌, ◌≤◌, Bool, true, false, cond, nat_eq, nat_lt, List, [], ◌∷◌, length, map, refl, sym, ap, ◌∙◌, subst, inl, inr, arith, eq-eqb, eqb-true, suc-mul, Option, Some, None, slice_get}
 use Rattle.event_order.specs.declared.key.Key.{Key}
 use Rattle.event_order.specs.Pending.{Among}
 use Rattle.event_order.proofs.Pending.{test_cases}
@@ -11,7 +10,6 @@ use Rattle.ssf_model.specs.Reaction.{Reaction, Validity, KeepsValid, LatestTime}
 use Rattle.ssf_model.specs.Deliver.{IsModest}
 use Rattle.ssf_model.specs.Run.{States, Fits}
 use Rattle.ssf_model.specs.Scene.{Scene, Net, scene_of}
-use Rattle.ssf_model.specs.Truth.{IsStretch}
 use Rattle.ssf_model.proofs.Places.{stretch_length}
 use Rattle.sync_rules.specs.Parts.{Line, MailOf, BarrierOf, CoreOf}
 use Rattle.sync_rules.specs.Bounds.{IsOutOf}
@@ -22,7 +20,7 @@ use Rattle.sync_rules.specs.Measure.IsLess.{in_time, in_windows, in_events, in_p
 use Rattle.sync_rules.proofs.Cores.{step_keeps}
 use Rattle.sync_rules.proofs.Measures.{step_less, packed_less}
 use Rattle.timeline_parts.specs.Tables.{AreRising}
-use Rattle.timeline.specs.View.{TimelineOf, key_of}
+use Rattle.timeline.specs.View.{TimelineOf}
 use Rattle.timeline.specs.Lines.{line_of}
 use Rattle.timeline.specs.Sound.{IsRunOnLines}
 use Rattle.timeline.proofs.Range.{written_in_range}

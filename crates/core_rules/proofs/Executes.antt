@@ -1,13 +1,12 @@
 -- The steps on one timeline alone: it executes, is spent, or enters a window; and its report to the barrier.
-use Rattle.std.proofs.Common.{◌≡◌, ℕ, zero, suc, ◌+◌, ◌<◌, ◌≤◌, ◌⊎◌, Bool, true, false, cond, nat_eq, List, [], ◌∷◌, length, map, set, refl, sym, ap, ◌∙◌, subst, inl, inr, arith, eqb-true, Option, Some, None, slice_get}
+use Rattle.std.proofs.Common.{◌≡◌, ℕ, suc, ◌<◌, List, [], ◌∷◌, length, refl, sym, ap, ◌∙◌, subst, arith, Some, slice_get}
 use Rattle.event_order.specs.declared.key.Key.{Key}
-use Rattle.event_order.specs.Pending.{Among}
 use Rattle.ssf_model.specs.declared.event.Event.{Event}
 use Rattle.ssf_model.specs.declared.plan.Plan.{Plan}
 use Rattle.ssf_model.specs.Run.{States}
 use Rattle.ssf_model.specs.Scene.{Scene, world_at, event_at, time_of}
-use Rattle.sync_rules.specs.Parts.{Line, MailOf, BarrierOf, CoreOf, put_at}
-use Rattle.sync_rules.specs.Bounds.{bound_of, low_of}
+use Rattle.sync_rules.specs.Parts.{Line, BarrierOf, CoreOf, put_at}
+use Rattle.sync_rules.specs.Bounds.{bound_of}
 use Rattle.sync_rules.specs.Shared.{IsShared}
 use Rattle.sync_rules.specs.Sound.{HasDone, IsSoundCore}
 use Rattle.sync_rules.specs.Steps.{CanExecute, CanEnter, CanReport, IsStep, executed_line, entered_line, executed_core, entered_core, reported_core, reported_barrier}
@@ -15,27 +14,23 @@ use Rattle.sync_rules.specs.Steps.IsStep.{executes, enters, reports}
 use Rattle.sync_rules.proofs.Bounds.{put_here, put_else}
 use Rattle.sync_rules.proofs.Cores.{step_keeps}
 use Rattle.timeline_parts.specs.Tables.{numbers_of}
-use Rattle.timeline_parts.specs.Parts.{channel_of}
-use Rattle.timeline_parts.proofs.Sending.{numbers_all_put}
 use Rattle.timeline.specs.View.{TimelineOf, key_of}
-use Rattle.timeline.specs.Holding.{bound_in, ahead_in, IsInOrder}
-use Rattle.timeline.specs.Executing.{refusal, IsRun, spent_of}
-use Rattle.timeline.specs.Moving.{can_enter, entered_at}
+use Rattle.timeline.specs.Holding.{bound_in, ahead_in}
+use Rattle.timeline.specs.Moving.{entered_at}
 use Rattle.timeline.specs.Lines.{line_of}
 use Rattle.timeline.specs.Sound.{IsSoundTimeline}
 use Rattle.timeline.proofs.Free.{IsFree}
 use Rattle.timeline.proofs.TellsBounds.{bound_is}
 use Rattle.timeline.proofs.Moved.{enters_line, spent_sound}
-use Rattle.appointments.specs.Mails.{Mails}
 use Rattle.barrier_window.specs.BarrierFields.{BarrierFields}
 use Rattle.barrier_window.specs.Crossings.{latest_of, with_report}
-use Rattle.sync_steps.specs.Between.{HasItsEnds, IsMailOf, can_report, counts_in}
-use Rattle.sync_steps.specs.Sounds.{barrier_as, HaveTheirPlaces, IsBarrierFor}
+use Rattle.sync_steps.specs.Between.{counts_in}
+use Rattle.sync_steps.specs.Sounds.{barrier_as, IsBarrierFor}
 use Rattle.sync_steps.proofs.SoundPairs.{entry_may, entry_keeps, report_enabled, report_as}
-use Rattle.core_rules.specs.Cores.{CoreView, line_or, mail_or, core_as, IsBarrierOf, IsPartOf, IsSoundFor}
-use Rattle.core_rules.specs.Stepping.{with_timeline, with_barrier, IsExecutedIn, IsSpentIn, IsEnteredIn, IsReportedIn}
-use Rattle.core_rules.specs.Leading.{AreSteps, LeadsTo}
-use Rattle.core_rules.proofs.Lists.{get_known, set_length}
+use Rattle.core_rules.specs.Cores.{CoreView, core_as, IsBarrierOf, IsPartOf, IsSoundFor}
+use Rattle.core_rules.specs.Stepping.{with_timeline, with_barrier, IsSpentIn, IsEnteredIn, IsReportedIn}
+use Rattle.core_rules.specs.Leading.{LeadsTo}
+use Rattle.core_rules.proofs.Lists.{set_length}
 use Rattle.core_rules.proofs.Closures.{put_same}
 use Rattle.core_rules.proofs.Parts.{lines_put, mail_moves, part_stays, part_moves, each_put, timeline_known, line_here}
 

@@ -1,5 +1,5 @@
 -- A step that was made leads where steps of the rules lead.
-use Rattle.std.proofs.Common.{◌≡◌, ℕ, zero, suc, ◌+◌, ◌<◌, ◌≤◌, Bool, List, length, map, refl, sym, ap, ◌∙◌, subst, arith, Option, Some, None, option_map, slice_get}
+use Rattle.std.proofs.Common.{◌≡◌, ℕ, ◌+◌, ◌≤◌, Bool, refl, sym, ap, ◌∙◌, subst, Option, Some, None, option_map, slice_get}
 use mathlib.Core.Path.{fun_ext}
 use Rattle.event_order.specs.declared.key.Key.{Key}
 use Rattle.event_order.specs.Pending.{IsRising}
@@ -13,25 +13,22 @@ use Rattle.ssf_model.specs.Scene.{Scene, Net, scene_of}
 use Rattle.ssf_model.specs.Truth.{IsNext}
 use Rattle.run_laws.proofs.Histories.{line_rises}
 use Rattle.run_laws.proofs.Opens.{fits_open}
-use Rattle.sync_rules.specs.Parts.{Line, MailOf, CoreOf}
-use Rattle.sync_rules.specs.Shared.{IsShared}
+use Rattle.sync_rules.specs.Parts.{Line, CoreOf}
 use Rattle.sync_rules.specs.Sound.{IsSoundCore}
 use Rattle.timeline_parts.specs.Tables.{numbers_of}
 use Rattle.timeline_parts.proofs.Sending.{numbers_all_put}
 use Rattle.timeline.specs.View.{TimelineOf, key_of}
 use Rattle.timeline.specs.Executing.{written_in}
 use Rattle.timeline.specs.Moving.{without}
-use Rattle.timeline.specs.Lines.{line_of}
-use Rattle.timeline.specs.Sound.{IsRunOnLines, IsSoundTimeline}
+use Rattle.timeline.specs.Sound.{IsRunOnLines}
 use Rattle.timeline.proofs.Free.{free_of}
 use Rattle.timeline.proofs.Executed.{keys, next, step_line, step_sound}
 use Rattle.timeline.proofs.Moved.{given_up_sound, history_rises}
-use Rattle.appointments.specs.Mails.{Mails}
 use Rattle.sync_steps.specs.declared.steps.Step.{Step}
 use Rattle.sync_steps.specs.declared.steps.Step.TheVariants.{Execute, Post, Take, Enter, Report, Cross}
 use Rattle.core_rules.specs.Cores.{CoreView, line_or, core_as, IsPartOf, IsSoundFor, IsCoreOfRun}
 use Rattle.core_rules.specs.Stepping.{IsExecutedIn, IsSpentIn, IsMade, without_below}
-use Rattle.core_rules.specs.Leading.{AreSteps, IsCountOf, LeadsTo, IsCoreStep, AreCoreSteps}
+use Rattle.core_rules.specs.Leading.{AreSteps, IsCountOf, LeadsTo, AreCoreSteps}
 use Rattle.core_rules.proofs.Lists.{get_map, map_length, one_of, none_some}
 use Rattle.core_rules.proofs.Closures.{steps_join}
 use Rattle.core_rules.proofs.Parts.{mail_moves, part_moves}

@@ -1,5 +1,5 @@
 -- Lists with one item put in, and what is found in them.
-use Rattle.std.proofs.Common.{◌≡◌, ℕ, zero, suc, ◌<◌, ◌≤◌, ◌⊎◌, Bool, true, false, cond, nat_eq, List, [], ◌∷◌, length, map, set, refl, sym, ap, ◌∙◌, subst, inl, inr, arith, eq-eqb, eqb-true, Option, Some, None, option_map, slice_get}
+use Rattle.std.proofs.Common.{◌≡◌, ℕ, zero, suc, ◌<◌, ◌⊎◌, true, false, cond, nat_eq, List, [], ◌∷◌, length, map, set, refl, sym, ap, ◌∙◌, inl, inr, arith, eq-eqb, eqb-true, Some, None, option_map, slice_get}
 use Rattle.event_order.specs.Pending.{Among}
 use Rattle.event_order.proofs.Pending.{test_cases}
 

@@ -1,5 +1,5 @@
 -- How one timeline or one mail of all parts becomes another, and what the rules see of it.
-use Rattle.std.proofs.Common.{◌≡◌, ℕ, ◌<◌, ◌≤◌, ◌⊎◌, true, false, cond, nat_eq, List, [], ◌∷◌, length, map, set, refl, sym, ap, ◌∙◌, subst, inl, inr, arith, eq-eqb, eqb-true, Option, Some, None, slice_get}
+use Rattle.std.proofs.Common.{◌≡◌, ℕ, ◌<◌, cond, nat_eq, List, [], ◌∷◌, map, set, sym, ap, ◌∙◌, subst, inl, inr, eqb-true, Some, slice_get}
 use mathlib.Core.Path.{fun_ext}
 use Rattle.event_order.specs.Pending.{Among}
 use Rattle.event_order.proofs.Pending.{test_cases}
@@ -7,8 +7,8 @@ use Rattle.ssf_model.specs.declared.event.Event.{Event}
 use Rattle.ssf_model.specs.declared.plan.Plan.{Plan}
 use Rattle.ssf_model.specs.Run.{States}
 use Rattle.ssf_model.specs.Scene.{Scene}
-use Rattle.sync_rules.specs.Parts.{Line, MailOf, CoreOf, put_at}
-use Rattle.sync_rules.specs.Bounds.{IsInto, IsOutOf}
+use Rattle.sync_rules.specs.Parts.{Line, MailOf, put_at}
+use Rattle.sync_rules.specs.Bounds.{IsOutOf}
 use Rattle.sync_rules.specs.Sound.{IsSoundMail}
 use Rattle.timeline_parts.specs.Tables.{numbers_of}
 use Rattle.timeline_parts.specs.Parts.{channel_of}
@@ -18,10 +18,10 @@ use Rattle.timeline.specs.Lines.{line_of, posted_of}
 use Rattle.timeline.specs.Sound.{IsSoundTimeline}
 use Rattle.appointments.specs.Mails.{Mails, mail_at}
 use Rattle.appointments.specs.Mails.{posted_of as posted_to}
-use Rattle.sync_steps.specs.Between.{HasItsEnds, IsMailOf}
+use Rattle.sync_steps.specs.Between.{IsMailOf}
 use Rattle.sync_steps.specs.Sounds.{mail_as, AreSoundMails, HaveTheirPlaces}
 use Rattle.plan_shares.specs.declared.crosses.CrossEnd.{CrossEnd}
-use Rattle.core_rules.specs.Cores.{CoreView, line_or, mail_or, core_as, AreEndsOf, IsPartOf, IsSoundFor}
+use Rattle.core_rules.specs.Cores.{CoreView, line_or, mail_or, core_as, IsPartOf, IsSoundFor}
 use Rattle.core_rules.specs.Stepping.{end_at}
 use Rattle.core_rules.proofs.Lists.{not_equal, one_of, none_some, get_known, got_at, set_at}
 

@@ -1,5 +1,5 @@
 -- A timeline posts to the mail of another one.
-use Rattle.std.proofs.Common.{◌≡◌, ℕ, ◌<◌, ◌≤◌, ◌⊎◌, true, false, cond, nat_eq, List, [], ◌∷◌, length, map, set, refl, sym, ap, ◌∙◌, subst, inl, inr, arith, eq-eqb, eqb-true, Option, Some, None, slice_get}
+use Rattle.std.proofs.Common.{◌≡◌, ℕ, ◌⊎◌, true, cond, nat_eq, List, set, refl, sym, ap, ◌∙◌, subst, inl, inr, eq-eqb, eqb-true, Some, slice_get}
 use mathlib.Core.Path.{fun_ext}
 use Rattle.event_order.specs.Pending.{Among}
 use Rattle.event_order.proofs.Pending.{test_cases}
@@ -11,27 +11,25 @@ use Rattle.sync_rules.specs.Parts.{Line, MailOf, CoreOf, put_at}
 use Rattle.sync_rules.specs.Bounds.{IsOutOf}
 use Rattle.sync_rules.specs.Shared.{IsShared}
 use Rattle.sync_rules.specs.Sound.{IsSoundCore}
-use Rattle.sync_rules.specs.Steps.{CanPost, IsStep, posted_line, posted_core, with_line, with_mail}
+use Rattle.sync_rules.specs.Steps.{CanPost, posted_line, posted_core, with_line, with_mail}
 use Rattle.sync_rules.specs.Steps.{posted_mail as posted_by_rule}
 use Rattle.sync_rules.specs.Steps.IsStep.{posts}
-use Rattle.timeline_parts.specs.Tables.{numbers_of, changed}
+use Rattle.timeline_parts.specs.Tables.{numbers_of}
 use Rattle.timeline_parts.proofs.Tables.{numbers_changed}
 use Rattle.timeline.specs.View.{TimelineOf, key_of}
-use Rattle.timeline.specs.Holding.{taken_of}
 use Rattle.timeline.specs.Moving.{posted_end}
 use Rattle.timeline.specs.Lines.{line_of, posted_of}
 use Rattle.timeline.specs.Sound.{IsSoundTimeline}
 use Rattle.appointments.specs.Mails.{ChannelMail, Mails, mail_at}
 use Rattle.appointments.specs.Mails.{posted_of as posted_to}
-use Rattle.sync_steps.specs.Between.{IsPostedTo, IsMailOf}
+use Rattle.sync_steps.specs.Between.{IsMailOf}
 use Rattle.sync_steps.specs.Sounds.{mail_as}
 use Rattle.sync_steps.proofs.SoundPairs.{post_enabled, post_as, post_keeps, row_as}
-use Rattle.plan_shares.specs.declared.crosses.CrossEnd.{CrossEnd}
-use Rattle.core_rules.specs.Cores.{CoreView, line_or, mail_or, core_as, IsPartOf, IsSoundFor}
+use Rattle.core_rules.specs.Cores.{CoreView, mail_or, core_as, IsPartOf, IsSoundFor}
 use Rattle.core_rules.specs.Stepping.{with_timeline, with_mail_of, IsPostedIn}
 use Rattle.core_rules.specs.Leading.{LeadsTo}
-use Rattle.core_rules.proofs.Lists.{not_equal, differ_test, one_of, get_known, set_length, set_at}
-use Rattle.core_rules.proofs.Parts.{lines_put, end_found, mail_moves, part_stays, part_moves, each_put, timeline_known, line_here, mail_here, joined}
+use Rattle.core_rules.proofs.Lists.{not_equal, one_of, get_known, set_length, set_at}
+use Rattle.core_rules.proofs.Parts.{lines_put, end_found, mail_moves, part_stays, part_moves, each_put, line_here, mail_here, joined}
 use Rattle.core_rules.proofs.Executes.{step_leads}
 
 -- ---- mails

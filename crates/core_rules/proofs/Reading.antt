@@ -1,5 +1,5 @@
 -- What sound parts mean for those who make calls and who read.
-use Rattle.std.proofs.Common.{◌≡◌, ℕ, zero, suc, ◌+◌, ◌<◌, ◌≤◌, ◌⊎◌, min, Bool, true, false, cond, not, ◌&&◌, nat_eq, List, [], ◌∷◌, ◌++◌, length, map, refl, sym, ap, ◌∙◌, subst, inl, inr, arith, eq-eqb, eqb-true, Option, Some, None, is_none, slice_get, slice_index, slice_index_or}
+use Rattle.std.proofs.Common.{◌≡◌, ℕ, zero, suc, ◌+◌, ◌<◌, ◌≤◌, ◌⊎◌, Bool, true, false, not, ◌&&◌, nat_eq, List, [], ◌∷◌, length, map, refl, sym, ap, ◌∙◌, subst, inl, inr, arith, eq-eqb, eqb-true, Option, Some, None, is_none, slice_get, slice_index}
 use Rattle.std.specs.List.{All, Contains}
 use Rattle.event_order.specs.declared.key.Key.{Key}
 use Rattle.event_order.specs.Order.{IsBefore}
@@ -12,48 +12,48 @@ use Rattle.ssf_model.specs.Reaction.{Reaction, Validity, KeepsValid, LatestTime}
 use Rattle.ssf_model.specs.Deliver.{IsModest}
 use Rattle.ssf_model.specs.Run.{States, Fits}
 use Rattle.ssf_model.specs.Scene.{Scene, Net, scene_of, event_at, time_of}
-use Rattle.ssf_model.specs.Truth.{is_on_line, IsTrueParcel, HasReached}
+use Rattle.ssf_model.specs.Truth.{is_on_line, HasReached}
 use Rattle.sync_rules.specs.Parts.{Line, MailOf, CoreOf}
 use Rattle.sync_rules.specs.Bounds.{IsInto, IsOutOf, bound_of, low_of, safe_bound}
 use Rattle.sync_rules.specs.Shared.{IsShared}
-use Rattle.sync_rules.specs.Sound.{IsSoundMail, IsSoundCore, IsCounted, IsOwnEvent}
+use Rattle.sync_rules.specs.Sound.{IsCounted, IsOwnEvent}
 use Rattle.sync_rules.specs.Steps.{CanExecute, CanPost, CanTake, CanEnter, CanReport, CanCross, IsStep, IsOver, BudgetEndsAt}
 use Rattle.sync_rules.specs.Steps.IsStep.{executes, posts, takes, enters, reports, crosses}
-use Rattle.sync_rules.proofs.Bounds.{safe_below, safe_above, safe_cases, safe_most}
+use Rattle.sync_rules.proofs.Bounds.{safe_below, safe_above, safe_most}
 use Rattle.sync_rules.proofs.Stuck.{never_stuck}
 use Rattle.sync_rules.proofs.Wholes.{safe_is_done, ended_is_done, budget_is}
 use Rattle.timeline_parts.specs.Tables.{numbers_of, AreRising}
 use Rattle.timeline_parts.specs.Parts.{channel_of}
 use Rattle.timeline_parts.specs.Settling.{AreNew}
 use Rattle.timeline.specs.View.{TimelineOf, key_of}
-use Rattle.timeline.specs.Holding.{bound_in, low_in, taken_of, is_over}
+use Rattle.timeline.specs.Holding.{bound_in, low_in, is_over}
 use Rattle.timeline.specs.Executing.{refusal, MayRun}
 use Rattle.timeline.specs.Moving.{can_enter}
 use Rattle.timeline.specs.Lines.{line_of, posted_of}
-use Rattle.timeline.specs.Sound.{IsRunOnLines, IsSoundTimeline, CountsAt, HasNext}
-use Rattle.timeline.proofs.Executed.{keys, may_run, may_execute, is_over_here, is_over_if, of_history}
+use Rattle.timeline.specs.Sound.{IsRunOnLines, CountsAt, HasNext}
+use Rattle.timeline.proofs.Executed.{keys, may_run, can_execute, may_execute, is_over_here, is_over_if, of_history}
 use Rattle.timeline.proofs.Free.{over_is, next_low}
-use Rattle.timeline.proofs.Moved.{take_late, take_after, enters_if_may}
+use Rattle.timeline.proofs.Moved.{take_late, take_after, may_enter, enters_if_may}
 use Rattle.timeline.proofs.TellsBounds.{bound_is, low_is, number_among, item_among}
-use Rattle.appointments.specs.Mails.{ChannelMail, Mails, mail_at}
+use Rattle.appointments.specs.Mails.{Mails, mail_at}
 use Rattle.appointments.specs.Mails.{posted_of as posted_to}
 use Rattle.appointments.specs.Posts.{taken_parcel}
-use Rattle.barrier_window.specs.BarrierFields.{BarrierFields}
 use Rattle.barrier_window.specs.Crossings.{first_without}
 use Rattle.plan_shares.specs.declared.crosses.CrossEnd.{CrossEnd}
 use Rattle.sync_steps.specs.declared.steps.Step.{Step}
 use Rattle.sync_steps.specs.declared.steps.Step.TheVariants.{Execute, Post, Take, Enter, Report, Cross}
-use Rattle.sync_steps.specs.Between.{HasItsEnds, IsMailOf, events_on, taken_on}
-use Rattle.sync_steps.specs.Sounds.{mail_as, AreSoundMails, number_of, barrier_as, HaveTheirPlaces, IsBarrierFor}
-use Rattle.sync_steps.proofs.SoundPairs.{out_known, post_possible, mail_new, take_possible, outs_contained, report_possible}
+use Rattle.sync_steps.specs.Between.{HasItsEnds, IsMailOf, can_post, can_take, can_report, events_on, taken_on}
+use Rattle.sync_steps.specs.Sounds.{mail_as, AreSoundMails, number_of, barrier_as}
+use Rattle.sync_steps.proofs.SoundPairs.{out_known, post_enabled, post_possible, mail_new, take_enabled, take_possible, outs_contained, report_enabled, report_possible}
 use Rattle.sync_steps.proofs.Taking.{contained}
-use Rattle.core_rules.specs.Cores.{CoreView, channel_in, line_or, core_as, IsPartOf, IsSoundFor}
-use Rattle.core_rules.specs.Stepping.{passes, end_at, can_execute_in, can_post_in, can_take_in, can_enter_in, can_report_in, can_cross, is_enabled}
+use Rattle.core_rules.specs.Cores.{CoreView, channel_in, core_as, IsPartOf, IsSoundFor}
+use Rattle.core_rules.specs.Stepping.{passes, end_at, can_execute_in, can_post_to, can_post_in, can_take_in, can_enter_in, can_report_in, can_cross, is_enabled}
+use Rattle.core_rules.specs.Leading.{MayStep}
 use Rattle.core_rules.specs.Reading.{least_low_in, safe_bound_in, BudgetEndsIn, IsSpentAt}
-use Rattle.core_rules.proofs.Lists.{not_equal, differ_test, one_of, none_some, get_known, got_at}
+use Rattle.core_rules.proofs.Lists.{differ_test, one_of, none_some, got_at}
 use Rattle.core_rules.proofs.Parts.{end_found, timeline_known, timeline_there, mail_there, line_here, mail_here, own_mails, joined}
 use Rattle.core_rules.proofs.Executes.{barrier_for}
-use Rattle.core_rules.proofs.Crosses.{none_without}
+use Rattle.core_rules.proofs.Crosses.{all_told, none_without, not_true, and_both, none_of}
 
 all_of : {T : Type 0} (Q : T → Type 0) (xs : List T) → ((x : T) → Among x xs → Q x) → All Q xs
 all_of Q [] each k d h = absurd (omega arith)
@@ -109,6 +109,10 @@ module _ {B S P : Type 0} where
   low_top : (end : ℕ) (ts : List (TimelineOf B S P)) → least_low_in end ts ≤ end
   low_top end [] = omega arith
   low_top end (u ∷ us) = (let rest = low_top end us in omega arith)
+
+passes_some : {T : Type 0} (o : Option T) (test : T → Bool) → passes o test ≡ true → (x : T) × (o ≡ Some x) × (test x ≡ true)
+passes_some None test h = absurd (let wrong : false ≡ true = h in cc)
+passes_some (Some x) test h = (x, refl, h)
 
 passed : {T : Type 0} (o : Option T) (x : T) (test : T → Bool) → o ≡ Some x → test x ≡ true → passes o test ≡ true
 passed {T} o x test is h = ap (λ (p : Option T). passes p test) is ∙ h
@@ -273,92 +277,154 @@ module _ {B S P : Type 0} (r : Reaction S P) (valid : Validity S) (carried : P �
   abbrev Goes : Type 0
   Goes = ((step : Step) × (is_enabled core step ≡ true)) ⊎ (((i : ℕ) × BudgetEndsIn core i) ⊎ ((i : ℕ) × IsSpentAt core i))
 
-  execute_goes : (i : ℕ) → i < s.net.timelines → CanExecute s core.budget i (seen.lines i) → Goes
-  execute_goes i known can =
+  execute_enables : (i : ℕ) → i < s.net.timelines → CanExecute s core.budget i (seen.lines i) → (can_execute_in core i ≡ true) ⊎ IsSpentAt core i
+  execute_enables i known can =
       let found = timeline_there plan line s core at v sound i known in
       let t : TimelineOf B S P = found.0 in
       let part = sound.each i t found.1 in
       let seen_as = line_here plan line s core at v sound i t found.1 in
       let there : CanExecute s t.budget i (line_of (at i) t) = subst (λ n. CanExecute s n i (line_of (at i) t)) (sym part.budget) (subst (λ (l : Line (Event P)). CanExecute s core.budget i l) seen_as can) in
       elim (test_cases t.spent) [
-        | inl spent ↦ inr (inr (i, record { timeline = t; own = found.1; spent = spent }))
+        | inl spent ↦ inr (record { timeline = t; own = found.1; spent = spent })
         | inr awake ↦ (let free : refusal t ≡ None = may_execute r valid carried law modest plan until in_time fits kept line net i (at i) t (subst (λ n. IsRunOnLines plan line n s) (sym part.budget) on) part.sound there awake in
-            inl (Execute i, passed (slice_get core.timelines i) t (λ u. is_none (refusal u)) found.1 (ap (λ o. is_none o) free)))
+            inl (passed (slice_get core.timelines i) t (λ u. is_none (refusal u)) found.1 (ap (λ o. is_none o) free)))
       ]
 
-  post_goes : (c : ℕ) → s.net.cross c ≡ true → CanPost s (s.net.sender c) c (seen.lines (s.net.sender c)) (seen.mails c) → Goes
-  post_goes c cross can =
-      let i : ℕ = s.net.sender c in
-      let found = timeline_there plan line s core at v sound i (sh.joining.sender c cross) in
+  post_enables : (i c : ℕ) → IsOutOf s.net i c → CanPost s i c (seen.lines i) (seen.mails c) → can_post_in core i c ≡ true
+  post_enables i c out can =
+      let found = timeline_there plan line s core at v sound i (subst (λ n. n < s.net.timelines) out.sender (sh.joining.sender c out.cross)) in
       let t : TimelineOf B S P = found.0 in
       let part = sound.each i t found.1 in
-      let q = sound.ends.all c cross in
+      let q = sound.ends.all c out.cross in
       let end : CrossEnd = q.0 in
       let told = sound.ends.each end q.1 in
       let listed : end_at c core.ends ≡ Some end = ap (λ n. end_at n core.ends) (sym q.2) ∙ end_of_channel core.ends end sound.ends.rising q.1 in
       let to : s.net.receiver c ≡ end.receiver = ap s.net.receiver (sym q.2) ∙ told.2 in
-      let from : end.sender ≡ i = sym told.1 ∙ ap s.net.sender q.2 in
-      let its = mail_there plan line s core at v sound end.receiver (subst (λ n. n < s.net.timelines) to (sh.joining.receiver c cross)) in
+      let from : end.sender ≡ i = sym told.1 ∙ (ap s.net.sender q.2 ∙ out.sender) in
+      let its = mail_there plan line s core at v sound end.receiver (subst (λ n. n < s.net.timelines) to (sh.joining.receiver c out.cross)) in
       let mail : Mails P = its.0 in
-      let out : IsOutOf s.net i c = record { cross = cross; sender = refl } in
       let there : CanPost s i c (line_of (at i) t) (mail_as (mail_at mail c)) =
       subst (λ (l : Line (Event P)). CanPost s i c l (mail_as (mail_at mail c))) (line_here plan line s core at v sound i t found.1)
       (subst (λ (m : MailOf (Event P)). CanPost s i c (seen.lines i) m) (mail_here plan line s core at v sound c end.receiver mail to its.1) can) in
       let may = post_possible plan line s key_is sh i (at i) t part.sound c out (mail_at mail c) there in
       let inner = passed (slice_get core.timelines i) t _ found.1 (passed (slice_get core.mails end.receiver) mail _ its.1 may) in
       let sends : nat_eq end.sender i ≡ true = eq-eqb end.sender i from in
-      inl (Post i c, passed (end_at c core.ends) end _ listed (rw sends inner))
+      passed (end_at c core.ends) end _ listed (rw sends inner)
 
-  take_goes : (c : ℕ) → s.net.cross c ≡ true → CanTake c (seen.lines (s.net.receiver c)) (seen.mails c) → Goes
-  take_goes c cross can =
-      let i : ℕ = s.net.receiver c in
-      let known = sh.joining.receiver c cross in
+  take_enables : (i c : ℕ) → IsInto s.net i c → CanTake c (seen.lines i) (seen.mails c) → can_take_in core i ≡ true
+  take_enables i c into can =
+      let known = subst (λ n. n < s.net.timelines) into.receiver (sh.joining.receiver c into.cross) in
       let found = timeline_there plan line s core at v sound i known in
       let t : TimelineOf B S P = found.0 in
       let part = sound.each i t found.1 in
       let its = mail_there plan line s core at v sound i known in
       let mail : Mails P = its.0 in
-      let into : IsInto s.net i c = record { cross = cross; receiver = refl } in
       let there : CanTake c (line_of (at i) t) (mail_as (mail_at mail c)) =
       subst (λ (l : Line (Event P)). CanTake c l (mail_as (mail_at mail c))) (line_here plan line s core at v sound i t found.1)
-      (subst (λ (m : MailOf (Event P)). CanTake c (seen.lines i) m) (mail_here plan line s core at v sound c i mail refl its.1) can) in
+      (subst (λ (m : MailOf (Event P)). CanTake c (seen.lines i) m) (mail_here plan line s core at v sound c i mail into.receiver its.1) can) in
       let may = take_possible plan line s key_is sh i (at i) mail t part.sound (part.mail mail its.1) c into there in
-      inl (Take i, passed (slice_get core.timelines i) t _ found.1 (passed (slice_get core.mails i) mail _ its.1 may))
+      passed (slice_get core.timelines i) t _ found.1 (passed (slice_get core.mails i) mail _ its.1 may)
 
-  enter_goes : (i : ℕ) → i < s.net.timelines → CanEnter s.net i (seen.lines i) seen.barrier → Goes
-  enter_goes i known can =
+  counts_here : (i : ℕ) (t : TimelineOf B S P) → slice_get core.timelines i ≡ Some t → CountsAt t.in_ends core.barrier.counts (number_of core.barrier.channels core.barrier.counts)
+  counts_here i t own c e item = number_here core.barrier.channels core.barrier.counts e.place c sound.barrier.rising sound.barrier.counts ((sound.each i t own).places c e item)
+
+  enter_enables : (i : ℕ) → i < s.net.timelines → CanEnter s.net i (seen.lines i) seen.barrier → can_enter_in core i ≡ true
+  enter_enables i known can =
       let found = timeline_there plan line s core at v sound i known in
       let t : TimelineOf B S P = found.0 in
       let part = sound.each i t found.1 in
       let there : CanEnter s.net i (line_of (at i) t) (barrier_as core.barrier) = subst (λ (l : Line (Event P)). CanEnter s.net i l (barrier_as core.barrier)) (line_here plan line s core at v sound i t found.1) can in
-      let counts : CountsAt t.in_ends core.barrier.counts (number_of core.barrier.channels core.barrier.counts) =
-      λ c e item. number_here core.barrier.channels core.barrier.counts e.place c sound.barrier.rising sound.barrier.counts (part.places c e item) in
-      let may = enters_if_may plan line s key_is sh i (at i) t part.sound core.barrier.counts (barrier_as core.barrier) counts there in
-      inl (Enter i, passed (slice_get core.timelines i) t _ found.1 may)
+      let may = enters_if_may plan line s key_is sh i (at i) t part.sound core.barrier.counts (barrier_as core.barrier) (counts_here i t found.1) there in
+      passed (slice_get core.timelines i) t _ found.1 may
 
-  report_goes : (i : ℕ) → i < s.net.timelines → CanReport s i (seen.lines i) seen.barrier → Goes
-  report_goes i known can =
+  report_enables : (i : ℕ) → i < s.net.timelines → CanReport s i (seen.lines i) seen.barrier → can_report_in core i ≡ true
+  report_enables i known can =
       let found = timeline_there plan line s core at v sound i known in
       let t : TimelineOf B S P = found.0 in
       let part = sound.each i t found.1 in
       let q = barrier_for plan line s key_is sh core at v sound i t found.1 in
       let there : CanReport s i (line_of (at i) t) (barrier_as core.barrier) = subst (λ (l : Line (Event P)). CanReport s i l (barrier_as core.barrier)) (line_here plan line s core at v sound i t found.1) can in
       let may = report_possible plan line s key_is sh i (at i) t part.sound part.ends core.barrier q.each q.crosses q.known there in
-      inl (Report i, passed (slice_get core.timelines i) t _ found.1 may)
+      passed (slice_get core.timelines i) t _ found.1 may
 
-  cross_goes : CanCross s.net.timelines seen.barrier → Goes
-  cross_goes can =
+  cross_enables : CanCross s.net.timelines seen.barrier → can_cross core.barrier ≡ true
+  cross_enables can =
       let none : first_without 0 core.barrier.reports ≡ None = none_without core.barrier.reports 0 (λ i h. can.all_in i (subst (λ n. i < n) sound.barrier.timelines h)) in
       let runs : core.barrier.ended ≡ false = can.goes_on in
-      inl (Cross, rw (runs, none) refl)
+      rw (runs, none) refl
+
+  -- what the rules let be made is enabled
+  pub enables : (step : Step) → MayStep s core.budget seen step → (is_enabled core step ≡ true) ⊎ ((i : ℕ) × (step ≡ Execute i) × IsSpentAt core i)
+  enables (Execute i) may = elim (execute_enables i may.0 may.1) [ inl h ↦ inl h | inr q ↦ inr (i, refl, q) ]
+  enables (Post i c) may = inl (post_enables i c may.0 may.1)
+  enables (Take i) may = inl (take_enables i may.0 may.1 may.2)
+  enables (Enter i) may = inl (enter_enables i may.0 may.1)
+  enables (Report i) may = inl (report_enables i may.0 may.1)
+  enables Cross may = inl (cross_enables may)
+
+  -- and what is enabled may be made by the rules
+  pub may_step : (step : Step) → is_enabled core step ≡ true → MayStep s core.budget seen step
+  may_step (Execute i) h =
+      let q = passes_some (slice_get core.timelines i) (λ t. is_none (refusal t)) h in
+      let part = sound.each i q.0 q.1 in
+      let can = can_execute r valid carried law modest plan until in_time fits kept line net i (at i) q.0 (subst (λ n. IsRunOnLines plan line n s) (sym part.budget) on) part.sound (none_of (refusal q.0) q.2) in (
+        timeline_known plan line s core at v sound i q.0 q.1,
+        subst (λ n. CanExecute s n i (seen.lines i)) part.budget (subst (λ (l : Line (Event P)). CanExecute s q.0.budget i l) (sym (line_here plan line s core at v sound i q.0 q.1)) can),
+      )
+  may_step (Post i c) h =
+      let q = passes_some (end_at c core.ends) (λ end. nat_eq end.sender i && can_post_to core i c end.receiver) h in
+      let two = and_both (nat_eq q.0.sender i) (can_post_to core i c q.0.receiver) q.2 in
+      let t = passes_some (slice_get core.timelines i) (λ u. passes (slice_get core.mails q.0.receiver) (λ mail. can_post u c (mail_at mail c))) two.1 in
+      let mail = passes_some (slice_get core.mails q.0.receiver) (λ m. can_post t.0 c (mail_at m c)) t.2 in
+      let out : IsOutOf s.net i c = goes_out i t.0 t.1 c q.0 q.1 (eqb-true q.0.sender i two.0) in
+      let part = sound.each i t.0 t.1 in
+      let to : s.net.receiver c ≡ q.0.receiver = (let found = end_found c core.ends q.0 q.1 in subst (λ n. s.net.receiver n ≡ q.0.receiver) found.1 (sound.ends.each q.0 found.0).2) in (
+        out,
+        subst (λ (l : Line (Event P)). CanPost s i c l (seen.mails c)) (sym (line_here plan line s core at v sound i t.0 t.1))
+            (subst (λ (m : MailOf (Event P)). CanPost s i c (line_of (at i) t.0) m) (sym (mail_here plan line s core at v sound c q.0.receiver mail.0 to mail.1))
+            (post_enabled plan line s key_is sh i (at i) t.0 part.sound c out (mail_at mail.0 c) mail.2)),
+      )
+  may_step (Take i) h =
+      let t = passes_some (slice_get core.timelines i) (λ u. passes (slice_get core.mails i) (λ mail. can_take u mail mail.channels)) h in
+      let mail = passes_some (slice_get core.mails i) (λ m. can_take t.0 m m.channels) t.2 in
+      let part = sound.each i t.0 t.1 in
+      let found = take_enabled plan line s key_is sh i (at i) mail.0 t.0 part.sound (part.mail mail.0 mail.1) mail.2 in
+      let c : ℕ = found.0 in (
+        c,
+        found.1,
+        subst (λ (l : Line (Event P)). CanTake c l (seen.mails c)) (sym (line_here plan line s core at v sound i t.0 t.1))
+            (subst (λ (m : MailOf (Event P)). CanTake c (line_of (at i) t.0) m) (sym (mail_here plan line s core at v sound c i mail.0 found.1.receiver mail.1)) found.2),
+      )
+  may_step (Enter i) h =
+      let t = passes_some (slice_get core.timelines i) (λ u. can_enter u core.barrier.window core.barrier.counts) h in
+      let part = sound.each i t.0 t.1 in (
+        timeline_known plan line s core at v sound i t.0 t.1,
+        subst (λ (l : Line (Event P)). CanEnter s.net i l seen.barrier) (sym (line_here plan line s core at v sound i t.0 t.1))
+            (may_enter plan line s key_is sh i (at i) t.0 part.sound core.barrier.counts (barrier_as core.barrier) (counts_here i t.0 t.1) t.2),
+      )
+  may_step (Report i) h =
+      let t = passes_some (slice_get core.timelines i) (λ u. can_report u i core.barrier) h in
+      let part = sound.each i t.0 t.1 in
+      let q = barrier_for plan line s key_is sh core at v sound i t.0 t.1 in (
+        timeline_known plan line s core at v sound i t.0 t.1,
+        subst (λ (l : Line (Event P)). CanReport s i l seen.barrier) (sym (line_here plan line s core at v sound i t.0 t.1))
+            (report_enabled plan line s key_is sh i (at i) t.0 part.sound part.ends core.barrier q.each q.crosses q.known t.2),
+      )
+  may_step Cross h =
+      let two = and_both (not core.barrier.ended) (is_none (first_without 0 core.barrier.reports)) h in
+      let none : first_without 0 core.barrier.reports ≡ None = none_of (first_without 0 core.barrier.reports) two.1 in
+      record {
+        goes_on = not_true core.barrier.ended two.0;
+        all_in = λ i known. all_told core.barrier.reports 0 i none (subst (λ n. i < n) (sym sound.barrier.timelines) known);
+      }
 
   step_goes : (after : CoreOf (Event P)) → IsStep s core.budget seen after → Goes
-  step_goes after (executes i n known may is same) = execute_goes i known may
-  step_goes after (posts c cross may same) = post_goes c cross may
-  step_goes after (takes c cross may same) = take_goes c cross may
-  step_goes after (enters i known may same) = enter_goes i known may
-  step_goes after (reports i known may same) = report_goes i known may
-  step_goes after (crosses b may crossing same) = cross_goes may
+  step_goes after (executes i n known may is same) = elim (execute_enables i known may) [ inl h ↦ inl (Execute i, h) | inr q ↦ inr (inr (i, q)) ]
+  step_goes after (posts c cross may same) = inl (Post (s.net.sender c) c, post_enables (s.net.sender c) c (record { cross = cross; sender = refl }) may)
+  step_goes after (takes c cross may same) = inl (Take (s.net.receiver c), take_enables (s.net.receiver c) c (record { cross = cross; receiver = refl }) may)
+  step_goes after (enters i known may same) = inl (Enter i, enter_enables i known may)
+  step_goes after (reports i known may same) = inl (Report i, report_enables i known may)
+  step_goes after (crosses b may crossing same) = inl (Cross, cross_enables may)
 
   budget_goes : (i : ℕ) → BudgetEndsAt s core.budget i seen → Goes
   budget_goes i ends =

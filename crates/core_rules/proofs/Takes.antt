@@ -1,10 +1,9 @@
 -- A timeline takes all of its mail.
-use Rattle.std.proofs.Common.{◌≡◌, ℕ, zero, suc, ◌<◌, ◌≤◌, ◌⊎◌, true, false, cond, nat_eq, List, [], ◌∷◌, length, map, set, refl, sym, ap, ◌∙◌, subst, inl, inr, arith, eq-eqb, eqb-true, Option, Some, None, option_map, slice_get}
+use Rattle.std.proofs.Common.{◌≡◌, ℕ, ◌<◌, ◌≤◌, true, false, cond, nat_eq, List, [], ◌∷◌, map, set, refl, sym, ap, ◌∙◌, subst, inl, inr, arith, eq-eqb, eqb-true, Option, Some, None, option_map, slice_get}
 use mathlib.Core.Path.{fun_ext}
 use Rattle.event_order.specs.Pending.{Among}
 use Rattle.event_order.proofs.Pending.{test_cases}
 use Rattle.ssf_model.specs.declared.event.Event.{Event}
-use Rattle.ssf_model.specs.declared.event.Parcel.{Parcel}
 use Rattle.ssf_model.specs.declared.plan.Plan.{Plan}
 use Rattle.ssf_model.specs.Run.{States}
 use Rattle.ssf_model.specs.Scene.{Scene}
@@ -12,7 +11,7 @@ use Rattle.sync_rules.specs.Parts.{Line, MailOf, CoreOf, put_at}
 use Rattle.sync_rules.specs.Bounds.{IsInto}
 use Rattle.sync_rules.specs.Shared.{IsShared}
 use Rattle.sync_rules.specs.Sound.{IsSoundCore}
-use Rattle.sync_rules.specs.Steps.{CanTake, IsStep, taken_line, taken_core}
+use Rattle.sync_rules.specs.Steps.{CanTake, taken_line, taken_core}
 use Rattle.sync_rules.specs.Steps.{taken_mail as taken_by_rule}
 use Rattle.sync_rules.proofs.Bounds.{put_here, put_else}
 use Rattle.timeline_parts.specs.declared.ends.InEnd.{InEnd}
@@ -22,20 +21,19 @@ use Rattle.timeline_parts.proofs.Tables.{item_changed}
 use Rattle.timeline.specs.View.{TimelineOf, key_of}
 use Rattle.timeline.specs.Moving.{taken_end}
 use Rattle.timeline.specs.Lines.{line_of}
-use Rattle.timeline.specs.Sound.{IsSoundTimeline}
 use Rattle.timeline.proofs.TellsBounds.{number_among, item_among}
 use Rattle.appointments.specs.Mails.{ChannelMail, Mails, mail_at, row_at, no_mail}
 use Rattle.appointments.specs.Mails.{posted_of as posted_to}
 use Rattle.appointments.specs.Posts.{taken_parcel}
-use Rattle.sync_steps.specs.Between.{HasItsEnds, IsMailOf, taken_on, taken_all, IsTakenFrom}
+use Rattle.sync_steps.specs.Between.{IsMailOf, taken_on, taken_all}
 use Rattle.sync_steps.specs.Sounds.{mail_as, AreSoundMails, HaveTheirPlaces, taken_lines}
 use Rattle.sync_steps.proofs.SoundPairs.{take_enabled, take_keeps, lines_as, rows_as, own_keeps}
-use Rattle.core_rules.specs.Cores.{CoreView, line_or, mail_or, core_as, IsPartOf, IsSoundFor}
+use Rattle.core_rules.specs.Cores.{CoreView, mail_or, core_as, IsPartOf, IsSoundFor}
 use Rattle.core_rules.specs.Stepping.{with_timeline, with_mail_of, IsTakenIn}
 use Rattle.core_rules.specs.Leading.{AreSteps, LeadsTo}
-use Rattle.core_rules.proofs.Lists.{not_equal, differ_test, one_of, none_some, get_known, set_length, set_at, listed}
+use Rattle.core_rules.proofs.Lists.{differ_test, one_of, none_some, get_known, set_length, set_at, listed}
 use Rattle.core_rules.proofs.Closures.{put_same, taken_cores, HasSome, takes_are_steps, steps_keep}
-use Rattle.core_rules.proofs.Parts.{lines_put, mail_moves, part_stays, each_put, timeline_known, line_here, mail_here, own_mails}
+use Rattle.core_rules.proofs.Parts.{lines_put, part_stays, each_put, line_here, mail_here, own_mails}
 use Rattle.core_rules.proofs.Posts.{mail_put}
 
 -- ---- a timeline that has taken mail

@@ -41,12 +41,13 @@ pub record CoreView (B S P : Type 0) : Type 0 where
 abbrev pub no_line : {E : Type 0} → Line E
 no_line = record { moment = 0; executed = 0; pending = []; entered = 0; arrival = 0; taken = λ c. 0; held = λ c. 0; posted = λ c. 0; written = λ c. 0; outbox = λ c. [] }
 
-abbrev pub channel_in : CrossEnd → ℕ
-channel_in end = end.channel
-
+-- the mail on channel c, where its receiver has this mail, or none
 abbrev pub mail_or : {P : Type 0} → ℕ → Option (Mails P) → MailOf (Event P)
 mail_or c None = first_mail
 mail_or c (Some mail) = mail_as (mail_at mail c)
+
+abbrev pub channel_in : CrossEnd → ℕ
+channel_in end = end.channel
 
 -- the ends are those of the net's channels between timelines, in the rising order of these
 pub record AreEndsOf (net : Net) (ends : List CrossEnd) : Type 0 where
@@ -55,6 +56,7 @@ pub record AreEndsOf (net : Net) (ends : List CrossEnd) : Type 0 where
   pub all : (c : ℕ) → net.cross c ≡ true → (e : CrossEnd) × Among e ends × (e.channel ≡ c)
 
 module _ {B S P : Type 0} where
+  -- the timeline at a moment of the run, or none
   abbrev pub line_or : ℕ → Option (TimelineOf B S P) → Line (Event P)
   line_or moment None = no_line
   line_or moment (Some t) = line_of moment t

@@ -1,5 +1,5 @@
 -- Where steps of the rules lead, for each run for which the parts were sound.
-use Rattle.std.specs.Prelude.{ℕ, zero, suc, ◌≡◌, ◌≤◌}
+use Rattle.std.specs.Prelude.{ℕ, zero, suc, ◌≡◌, ◌<◌, ◌≤◌}
 use Rattle.ssf_model.specs.declared.event.Event.{Event}
 use Rattle.ssf_model.specs.declared.plan.Plan.{Plan}
 use Rattle.ssf_model.specs.Reaction.{Reaction, Validity}
@@ -7,7 +7,8 @@ use Rattle.ssf_model.specs.Run.{States}
 use Rattle.ssf_model.specs.Runs.{OfEachFittingRun}
 use Rattle.ssf_model.specs.Scene.{Scene}
 use Rattle.sync_rules.specs.Parts.{CoreOf}
-use Rattle.sync_rules.specs.Steps.{IsStep}
+use Rattle.sync_rules.specs.Bounds.{IsInto, IsOutOf}
+use Rattle.sync_rules.specs.Steps.{CanExecute, CanPost, CanTake, CanEnter, CanReport, CanCross, IsStep}
 use Rattle.sync_steps.specs.declared.steps.Step.{Step}
 use Rattle.sync_steps.specs.declared.steps.Step.TheVariants.{Execute, Post, Take, Enter, Report, Cross}
 use Rattle.timeline.specs.Sound.{IsRunOnLines}
@@ -17,6 +18,15 @@ use Rattle.core_rules.specs.Cores.{CoreView, core_as, IsSoundFor}
 abbrev pub AreSteps : {X E : Type 0} → Scene X E → ℕ → ℕ → CoreOf E → CoreOf E → Type 0
 AreSteps s budget zero before t = before ≡ t
 AreSteps {X} {E} s budget (suc n) before t = (between : CoreOf E) × IsStep s budget before between × AreSteps s budget n between t
+
+-- the rules let the step be made. A timeline takes its mail where some channel has something for it
+abbrev pub MayStep : {X E : Type 0} → Scene X E → ℕ → CoreOf E → Step → Type 0
+MayStep s budget t (Execute i) = (i < s.net.timelines) × CanExecute s budget i (t.lines i)
+MayStep s budget t (Post i c) = IsOutOf s.net i c × CanPost s i c (t.lines i) (t.mails c)
+MayStep s budget t (Take i) = (c : ℕ) × IsInto s.net i c × CanTake c (t.lines i) (t.mails c)
+MayStep s budget t (Enter i) = (i < s.net.timelines) × CanEnter s.net i (t.lines i) t.barrier
+MayStep s budget t (Report i) = (i < s.net.timelines) × CanReport s i (t.lines i) t.barrier
+MayStep s budget t Cross = CanCross s.net.timelines t.barrier
 
 -- how many steps of the rules a step on all parts makes: one, or, where a timeline takes its mail, one for each channel
 -- that has something for it

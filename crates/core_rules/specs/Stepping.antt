@@ -30,6 +30,7 @@ end_at c (e ∷ es) = cond (nat_eq e.channel c) (Some e) (end_at c es)
 abbrev pub can_cross : BarrierFields → Bool
 can_cross b = not b.ended && is_none (first_without 0 b.reports)
 
+-- the six tests, of timelines that are there
 module _ {B S P : Type 0} where
   abbrev pub can_execute_in : CoreView B S P → ℕ → Bool
   can_execute_in core i = passes (slice_get core.timelines i) (λ t. is_none (refusal t))

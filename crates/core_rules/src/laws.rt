@@ -32,9 +32,10 @@ ghost use Rattle.sync_steps.specs.Between.{HasItsEnds, IsMailOf, events_on};
 ghost use Rattle.alignment.specs.declared.labels.Mode.{Mode as ModeValue};
 ghost use Rattle.alignment.specs.Alignment.{IsAlignment, line_of, timeline_count};
 ghost use Rattle.sync_steps.specs.declared.steps.Step.{Step as StepValue};
+ghost use Rattle.sync_steps.specs.declared.steps.Step.TheVariants.{Execute};
 ghost use Rattle.core_rules.specs.Cores.{CoreView, core_as, IsSoundFor, IsCoreOfRun, OfEachSoundCore};
 ghost use Rattle.core_rules.specs.Stepping.{end_at, is_enabled, IsMade, IsSpentIn, without_below};
-ghost use Rattle.core_rules.specs.Leading.{IsCoreStep, AreCoreSteps};
+ghost use Rattle.core_rules.specs.Leading.{MayStep, IsCoreStep, AreCoreSteps};
 ghost use Rattle.core_rules.specs.Beginning.{IsFirstCore};
 ghost use Rattle.core_rules.specs.Ending.{steps_left};
 ghost use Rattle.core_rules.specs.Reading.{safe_bound_in, BudgetEndsIn, IsSpentAt};
@@ -148,6 +149,15 @@ pub fn bounds_and_windows_hold<B: Behaviour>()
         core.barrier.ended ≡ true → (j : ℕ) (e : EventValue B.Payload) → event_at s j ≡ Some e → j < at (s.line e)) }
     ensures history { (b : B) → OfEachSoundCore {B = B} (B.valid b) (B.carried b) (B.reaction b) (λ plan line s core at v.
         (i : ℕ) (t : TimelineOf B B.State B.Payload) → slice_get core.timelines i ≡ Some t → (given_up : List EntryValue) × (given_up ++ t.history ≡ line_entries s i (at i))) }
+{}
+
+/// What is enabled may be made by the rules (`may`), and what may be made by them is enabled, but for the
+/// execution of a timeline that is spent (`enables`).
+pub fn steps_are_enabled_as_the_rules_say<B: Behaviour>()
+    ensures may { (b : B) → OfEachSoundCore {B = B} (B.valid b) (B.carried b) (B.reaction b) (λ plan line s core at v.
+        (step : StepValue) → is_enabled core step ≡ true → MayStep s core.budget (core_as s.net at core) step) }
+    ensures enables { (b : B) → OfEachSoundCore {B = B} (B.valid b) (B.carried b) (B.reaction b) (λ plan line s core at v.
+        (step : StepValue) → MayStep s core.budget (core_as s.net at core) step → (is_enabled core step ≡ true) ⊎ ((i : ℕ) × (step ≡ Execute i) × IsSpentAt core i)) }
 {}
 
 /// Nothing is stuck: until the barrier has ended some step is enabled, or the budget ends at some
