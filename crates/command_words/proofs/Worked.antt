@@ -98,11 +98,11 @@ a_step : command_in_table (codes "step" ∷ codes "--until" ∷ codes "5" ∷ co
 unfolding command_of_words asked_of_words command_in_table all_landed stand_once have_values files_in value_of is_schedule parts
 a_step = refl
 
-a_campus : command_in_table (codes "gen" ∷ codes "--seed" ∷ codes "7" ∷ []) ≡ Some Gen
+a_campus : asked_of_words (codes "gen" ∷ codes "--size" ∷ codes "1" ∷ codes "--seed" ∷ codes "7" ∷ []) ≡ Some (record { command = commands.Gen 7 1; schedule = None; report = false; files = [] })
 unfolding command_of_words asked_of_words command_in_table all_landed stand_once have_values files_in value_of is_schedule parts
 a_campus = refl
 
-a_campus_of_a_file : command_in_table (codes "gen" ∷ codes "--seed" ∷ codes "7" ∷ codes "m.dml" ∷ []) ≡ None
+a_campus_of_a_file : asked_of_words (codes "gen" ∷ codes "--seed" ∷ codes "7" ∷ codes "m.dml" ∷ []) ≡ None
 unfolding command_of_words asked_of_words command_in_table all_landed stand_once have_values files_in value_of is_schedule parts
 a_campus_of_a_file = refl
 

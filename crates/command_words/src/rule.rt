@@ -189,9 +189,12 @@ fn has_landed(word: &str) -> bool
         || word == "check"
         || word == "plan"
         || word == "seq"
+        || word == "gen"
         || word == "--flat"
         || word == "--until"
         || word == "--budget"
+        || word == "--seed"
+        || word == "--size"
 }
 
 /// Whether a word is no option, or one that has landed.

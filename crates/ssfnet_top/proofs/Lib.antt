@@ -3,6 +3,7 @@ pub mod Endings
 pub mod FaultPlaces
 pub mod FilesRead
 pub mod Naming
+pub mod NoFiles
 pub mod OneOutcome
 pub mod Pieces
 pub mod RunOutcome

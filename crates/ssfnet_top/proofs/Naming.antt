@@ -1,5 +1,5 @@
 -- The plan of a ring, and the entries of its run.
-use Rattle.std.proofs.Common.{ℕ, ◌≡◌, ◌<◌, ◌≤◌, ◌+◌, ◌∙◌, sym, ap, subst, refl, List, length, Bool, true, false, Ok, Err, All, arith, suc, cond, nat_lt}
+use Rattle.std.proofs.Common.{ℕ, ◌≡◌, ◌<◌, ◌≤◌, ◌+◌, ◌∙◌, sym, ap, subst, refl, List, length, Bool, true, false, Ok, Err, All, arith, cond, nat_lt}
 use Rattle.std.specs.List.{list_any}
 use Rattle.event_order.specs.Machine.{within}
 use Rattle.dml_tree.specs.declared.tree.Attribute.{Attribute}

@@ -132,6 +132,7 @@ command_once (commands.Dml true) names tree due other p q = printed_once (resolv
 command_once commands.Check names tree due other p q = text_once (counts_of (resolved_of names tree)) due other p q
 command_once commands.Plan names tree due other p q = plan_once (resolved_of names tree) due other p q
 command_once (commands.Seq until budget) names tree due other p q = model_once until budget (model_of names tree) due other p q
+command_once (commands.Gen seed size) names tree due other p q = p ∙ sym q
 command_once _ names tree due other p q = absurd p
 
 tree_once : (asked : Asked) (tree : Result Attributes Refusal) (due other : Due) → IsTreeDue asked tree due → IsTreeDue asked tree other → due ≡ other

@@ -1,5 +1,5 @@
 -- How a call ends, measured by what is due: all of it, a part of it, or nothing.
-use Rattle.std.specs.Prelude.{ℕ, ◌≡◌, ◌+◌, ◌⊎◌, true, List, [], ◌∷◌, Contains, Option, None, IsSome, Result, Ok, Err}
+use Rattle.std.specs.Prelude.{ℕ, ◌≡◌, ◌+◌, ◌⊎◌, true, List, [], ◌∷◌, Contains, Option, Some, None, IsSome, Result, Ok, Err}
 use Rattle.std.specs.Option.{IsSomeAnd}
 use Rattle.sim_base.specs.Outside.{Files, Rose, Appends, AppendsPrefix}
 use Rattle.dml_tree.specs.Attributes.{Attributes}
@@ -7,6 +7,7 @@ use Rattle.dml_tree.specs.declared.reading.TreeFault.TheVariants as tree_fault
 use Rattle.dml_resolve.specs.declared.resolving.PathFault.{PathFault}
 use Rattle.dml_resolve.specs.declared.resolving.PathFault.TheVariants as path_fault
 use Rattle.net_graph.specs.declared.fault.ShapeFault.TheVariants as shape_fault
+use Rattle.model_gen.specs.Campus.{campus_text}
 use Rattle.command_words.specs.declared.command.Command.{Command}
 use Rattle.command_words.specs.declared.command.Command.TheVariants as commands
 use Rattle.ssfnet_top.specs.declared.refusal.Refusal.{Refusal}
@@ -64,6 +65,15 @@ Concerns asked refusal.NotYet = IsSomeAnd asked (λ a. RunsModel a.command)
 Concerns asked (refusal.Shape fault) = IsSomeAnd asked (λ a. HasModel a.command) × ¬ (fault ≡ shape_fault.Memory)
 Concerns asked refusal.Write = IsSome asked
 Concerns asked (refusal.Budget budget) = IsSomeAnd asked (λ a. HasBudget a.command budget)
+
+-- where a campus is asked, its text was written, whatever the files are
+abbrev pub Generates : Command → Option (List ℕ) → Option (List ℕ) → Type 0
+Generates (commands.Gen seed size) held held' = Appends (campus_text seed size) held held'
+Generates _ held held' = Unit {0}
+
+abbrev pub HasGenerated : Option Asked → Option (List ℕ) → Option (List ℕ) → Type 0
+HasGenerated None held held' = Unit {0}
+HasGenerated (Some asked) held held' = Generates asked.command held held'
 
 -- What is seen of the outside: how often the library, `out` and `err` failed, and the bytes that `out` and `err` hold
 -- where they are told.

@@ -30,6 +30,7 @@ use Rattle.ssf_model.specs.declared.plan.Plan.{Plan}
 use Rattle.ssf_model.specs.Reaction.{Reaction}
 use Rattle.ssf_model.specs.Run.{run_event, run_entries}
 use Rattle.trace_writer.specs.Trace.{entries_text, trace_text}
+use Rattle.model_gen.specs.Campus.{campus_text}
 use Rattle.command_words.specs.declared.command.Command.{Command}
 use Rattle.command_words.specs.declared.command.Command.TheVariants as commands
 use Rattle.ssfnet_top.specs.declared.refusal.Refusal.{Refusal}
@@ -192,13 +193,15 @@ abbrev pub IsPrinted : Result Attributes Refusal → Due → Type 0
 IsPrinted (Ok tree) due = due ≡ done (printing 0 tree)
 IsPrinted (Err r) due = due ≡ refused r []
 
--- what a command has to do with the joined tree of files with these names
+-- what a command has to do with the joined tree of files with these names; `gen` has no files, and asks nothing of
+-- the tree
 abbrev pub IsCommandDue : Command → List (List ℕ) → Attributes → Due → Type 0
 IsCommandDue (commands.Dml false) names tree due = IsPrinted (Ok tree) due
 IsCommandDue (commands.Dml true) names tree due = IsPrinted (resolved_of names tree) due
 IsCommandDue commands.Check names tree due = IsText (counts_of (resolved_of names tree)) due
 IsCommandDue commands.Plan names tree due = IsPlan (resolved_of names tree) due
 IsCommandDue (commands.Seq until budget) names tree due = IsModelRun until budget (model_of names tree) due
+IsCommandDue (commands.Gen seed size) names tree due = IsText (Ok (campus_text seed size)) due
 -- no words ask for the commands that have not landed
 IsCommandDue _ names tree due = ⊥
 

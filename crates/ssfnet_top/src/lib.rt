@@ -1,5 +1,5 @@
-//! The commands of the program, `dml`, `check`, `plan` and `seq`: from words and files to the bytes
-//! written and the status.
+//! The commands of the program, `dml`, `check`, `plan`, `seq` and `gen`: from words and files to the
+//! bytes written and the status.
 //!
 //! The whole meaning of a call is `IsOutcome` of `specs/Outcome.antt`: from words and the files that
 //! the library tells to the status and the bytes that are due; `specs/Ending.antt` says how a call
@@ -11,6 +11,7 @@
 
 mod checking;
 mod files;
+mod generating;
 pub mod laws;
 mod planning;
 mod printing;

@@ -7,11 +7,12 @@ ghost use Rattle.command_words.specs.Words.{asked_of_words, IsInRange, IsLanded}
 ghost use Rattle.ssfnet_top.specs.Refusals.{status_of, line_of};
 ghost use Rattle.ssfnet_top.specs.Outcome.{IsCommandDue, IsOutcome, refusal_line};
 ghost use Rattle.ssfnet_top.specs.FilePlaces.{ArePlaced};
-ghost use Rattle.ssfnet_top.specs.Ending.{Ends, Concerns, Answers, IsReadFault, IsOfCommand, IsOfModel, IsTold, IsLineCut};
+ghost use Rattle.ssfnet_top.specs.Ending.{Ends, Concerns, Answers, IsReadFault, IsOfCommand, IsOfModel, IsTold, IsLineCut, HasGenerated};
 
 use crate::Refusal;
 use crate::checking::print_counts;
 use crate::files::read_files;
+use crate::generating::print_campus;
 use crate::planning::print_plan;
 use crate::printing::{print_resolved, print_tree};
 use crate::seq::run_model;
@@ -30,7 +31,8 @@ const WRITE_STATUS: u8 = 7;
 /// `out` and the line of a refusal on `err`, and answers the status with which the program ends.
 ///
 /// The commands are `dml` (the printing of the files' tree), `check` (how many parts the model has),
-/// `plan` (the text of the model's plan) and `seq` (the trace of the model's run by one event list).
+/// `plan` (the text of the model's plan), `seq` (the trace of the model's run by one event list) and
+/// `gen` (the text of a generated model, for which no file is read).
 ///
 /// The words are those after the program's name. The statuses are 0 where the whole output was
 /// written, 1 where there was no memory, 2 for words that are not those of a command, 3 for a file
@@ -53,6 +55,7 @@ pub fn offline<L: Library, K: Sink, J: Sink>(
     ensures write { result ≡ 7 → Rose (K.faults out.old) (K.faults out.new) ⊎ Rose (J.faults err.old) (J.faults err.new) }
     ensures nothing { 2 ≤ result → result ≤ 6 → Appends [] (K.held out.old) (K.held out.new) }
     ensures quiet { result ≡ 0 → Appends [] (J.held err.old) (J.held err.new) }
+    ensures generated { result ≡ 0 → HasGenerated (asked_of_words (map string_bytes words.now)) (K.held out.old) (K.held out.new) }
     ensures line { (result ≡ 0) ⊎ (((result ≡ 7) × IsLineCut (asked_of_words (map string_bytes words.now)) (J.faults err.old) (J.faults err.new) (J.held err.old) (J.held err.new)) ⊎ ((r : RefusalValue) × (status_of r ≡ result) × Concerns (asked_of_words (map string_bytes words.now)) r × Appends (refusal_line r) (J.held err.old) (J.held err.new))) }
 {
     match answer(alloc, words, library, out) {
@@ -76,6 +79,7 @@ fn answer<L: Library, K: Sink>(
     ensures read { IfErr result (λ r. status_of r ≡ 3 → Rose (L.faults library.old) (L.faults library.new)) }
     ensures write { IfErr result (λ r. r ≡ Refusal.Write → Rose (K.faults out.old) (K.faults out.new)) }
     ensures nothing { IfErr result (λ r. 2 ≤ status_of r → status_of r ≤ 6 → Appends [] (K.held out.old) (K.held out.new)) }
+    ensures generated { OnOk result (HasGenerated (asked_of_words (map string_bytes words.now)) (K.held out.old) (K.held out.new)) }
 {
     let request = match read_words(alloc, words) {
         Ok(request) => request,
@@ -114,7 +118,7 @@ fn act<K: Sink>(
         Command::Seq { until, budget } => run_model(alloc, until, budget, names, tree, out),
         Command::Step { .. } => unreachable!(),
         Command::Run { .. } => unreachable!(),
-        Command::Gen { .. } => unreachable!(),
+        Command::Gen { seed, size } => print_campus(alloc, seed, size, out),
     }
 }
 
