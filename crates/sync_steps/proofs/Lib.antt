@@ -2,4 +2,5 @@ pub mod Words
 pub mod Posting
 pub mod Taking
 pub mod Reporting
+pub mod Allowed
 pub mod SoundPairs

@@ -1,5 +1,6 @@
 -- What is handed out and posted.
-use Rattle.std.proofs.Common.{◌≡◌, ℕ, zero, suc, ◌+◌, Bool, true, false, nat_eq, nat_lt, ◌||◌, List, [], ◌∷◌, length, refl, ap, ◌∙◌, subst, inl, inr, arith, lt-ltb, eqb-true, Some}
+use Rattle.std.proofs.Common.{◌≡◌, ℕ, zero, suc, ◌+◌, sym, Bool, true, false, nat_eq, nat_lt, ◌||◌, List, [], ◌∷◌, length, refl, ap, ◌∙◌, subst, inl, inr, arith, lt-ltb, eqb-true, Some}
+use Rattle.std.proofs.lemmas.Bool.{le-ltb}
 use Rattle.event_order.specs.Pending.{Among}
 use Rattle.event_order.proofs.Pending.{test_cases}
 use Rattle.ssf_model.specs.declared.event.Event.{Event}
@@ -87,3 +88,8 @@ module _ {B S P : Type 0} where
   pub news_is : (t : TimelineOf B S P) (c : ℕ) (parcel : Parcel P) (appointment : ℕ) (mail : ChannelMail P) → parcel ≡ parcel_in t c → appointment ≡ mail.appointment
       → (nat_lt 0 (length parcel.events) || nat_lt appointment parcel.promise) ≡ can_post t c mail
   news_is t c parcel appointment mail is e = rw (is, e) refl
+
+-- where p and n more are w, more than p is w exactly where there are more
+pub waiting_is : (p n w q v : ℕ) → p + n ≡ w → q ≡ p → v ≡ w → nat_lt q v ≡ nat_lt 0 n
+waiting_is p zero w q v sum a b = le-ltb q v (omega arith) ∙ sym (le-ltb 0 zero (omega arith))
+waiting_is p (suc n) w q v sum a b = lt-ltb q v (omega arith) ∙ sym (lt-ltb 0 (suc n) (omega arith))

@@ -1,8 +1,9 @@
 -- The steps on two parts: when they can be made, and what becomes of the two.
-use Rattle.std.specs.Prelude.{ℕ, ◌≡◌, ◌+◌, Bool, true, false, cond, nat_eq, nat_le, nat_lt, ◌&&◌, ◌||◌, not, min, List, [], ◌∷◌, ◌++◌, map, length, Option, Some, None, slice_get}
+use Rattle.std.specs.Prelude.{ℕ, ◌≡◌, ◌+◌, Bool, true, false, cond, nat_eq, nat_le, nat_lt, ◌&&◌, ◌||◌, not, min, List, [], ◌∷◌, ◌++◌, map, length, Option, Some, None, slice_get, slice_index}
 use Rattle.event_order.specs.Pending.{Among, put_all}
 use Rattle.ssf_model.specs.declared.event.Event.{Event}
 use Rattle.ssf_model.specs.declared.event.Parcel.{Parcel}
+use Rattle.timeline_parts.specs.declared.ends.InEnd.{InEnd}
 use Rattle.timeline_parts.specs.declared.ends.OutEnd.{OutEnd}
 use Rattle.timeline_parts.specs.Tables.{numbers_of, item_at, changed}
 use Rattle.timeline_parts.specs.Sending.{written_of}
@@ -27,10 +28,37 @@ abbrev pub promised_by : {P : Type 0} → ℕ → ℕ → Option (OutEnd P) → 
 promised_by low top None = 0
 promised_by low top (Some end) = cond end.appointed (min (low + end.delay) top) 0
 
+-- the same of a mapping to another timeline
+abbrev pub promised_on : Cross → ℕ → ℕ → ℕ
+promised_on x low top = cond x.appointed (min (low + x.mapping.delay) top) 0
+
+-- and of the first of some mappings that has channel c
+abbrev pub promised_among : List Cross → ℕ → ℕ → ℕ → ℕ
+promised_among [] c low top = 0
+promised_among (x ∷ xs) c low top = cond (nat_eq (channel_of x) c) (promised_on x low top) (promised_among xs c low top)
+
+-- as much was taken from the channels of some mappings, which have these ends, as the counts say, which stand at the mappings' places
+abbrev pub has_taken_on : List (ℕ × InEnd) → List ℕ → List Cross → Bool
+has_taken_on ends counts [] = true
+has_taken_on ends counts (x ∷ xs) = nat_le (slice_index counts x.place) (taken_of ends (channel_of x)) && has_taken_on ends counts xs
+
 -- all events of the mail on some channels
 abbrev pub events_on : {P : Type 0} → Mails P → List ℕ → List (Event P)
 events_on mail [] = []
 events_on mail (c ∷ cs) = (mail_at mail c).events ++ events_on mail cs
+
+-- the channel and the place of an end and of a mapping, and the channel and the delay, with whether it is an appointed one
+abbrev pub in_place : ℕ × InEnd → ℕ × ℕ
+in_place x = (x.0, x.1.place)
+
+abbrev pub cross_place : Cross → ℕ × ℕ
+cross_place x = (channel_of x, x.place)
+
+abbrev pub out_delay : {P : Type 0} → ℕ × OutEnd P → ℕ × (Bool × ℕ)
+out_delay x = (x.0, (x.1.appointed, x.1.delay))
+
+abbrev pub cross_delay : Cross → ℕ × (Bool × ℕ)
+cross_delay x = (channel_of x, (x.appointed, x.mapping.delay))
 
 -- a timeline of a barrier has not reported in this round
 abbrev pub is_silent : Option (Option ℕ) → Bool
@@ -43,6 +71,11 @@ module _ {B S P : Type 0} where
   pub record HasItsEnds (t : TimelineOf B S P) : Type 0 where
     pub ins : numbers_of t.in_ends ≡ map channel_of t.ins
     pub outs : numbers_of t.out_ends ≡ map channel_of t.outs
+
+  -- and each end stands at the place of its mapping, and has its delay, and is an appointed one where the mapping is
+  pub record HasItsCrosses (t : TimelineOf B S P) : Type 0 where
+    pub ins : map in_place t.in_ends ≡ map cross_place t.ins
+    pub outs : map out_delay t.out_ends ≡ map cross_delay t.outs
 
   -- ---- post
 

@@ -1,11 +1,11 @@
 //! The steps on two parts: a timeline and a mail, or a timeline and the barrier.
 
-ghost use Rattle.std.specs.Prelude.{◌≡◌, ◌+◌, ◌-◌, ◌<◌, ◌≤◌, ◌&&◌, nat_lt, nat_le, ◌||◌, ◌^◌, ℕ, List, map, take, drop, length, Ok, Err, IfOk, IfSome, IfNone, OnOk, OnErr};
+ghost use Rattle.std.specs.Prelude.{◌≡◌, ◌+◌, ◌-◌, ◌<◌, ◌≤◌, ◌&&◌, nat_lt, nat_le, slice_index, ◌||◌, ◌^◌, ℕ, List, map, take, drop, length, Ok, Err, IfOk, IfSome, IfNone, OnOk, OnErr};
 ghost use Rattle.std.specs.List.{All, Contains};
 ghost use Rattle.event_order.specs.Pending.{Among};
 ghost use Rattle.timeline_parts.specs.Tables.{numbers_of};
 ghost use Rattle.timeline_parts.specs.Settling.{AreNew};
-ghost use Rattle.timeline.specs.Holding.{held_of, taken_of};
+ghost use Rattle.timeline.specs.Holding.{held_of, taken_of, has_taken as has_taken_all};
 ghost use Rattle.timeline_parts.specs.Parts.{channel_of};
 ghost use Rattle.timeline.specs.Moving.{can_enter, entered_at, IsTaken};
 ghost use Rattle.timeline.specs.Lines.{posted_of, outbox_of};
@@ -14,7 +14,7 @@ ghost use Rattle.appointments.specs.Posts.{taken_mail, taken_parcel};
 ghost use Rattle.barrier_window.specs.Crossings.{with_report};
 ghost use Rattle.timeline.specs.Holding.{ahead_in};
 ghost use Rattle.sync_steps.specs.declared.steps.Stepped.TheVariants.{Did};
-ghost use Rattle.sync_steps.specs.Between.{stepped, HasItsEnds, can_post, IsPostedTo, IsMailOf, can_take, events_on, taken_all, IsTakenFrom, can_report, count_on, counts_in};
+ghost use Rattle.sync_steps.specs.Between.{stepped, HasItsEnds, HasItsCrosses, promise_in, promised_on, promised_among, has_taken_on, can_post, IsPostedTo, IsMailOf, can_take, events_on, taken_all, IsTakenFrom, can_report, count_on, counts_in};
 
 use crate::steps::Stepped;
 use appointments::Mail;
@@ -22,7 +22,7 @@ use barrier_window::Barrier;
 use sim_base::Memory;
 use ssf_model::{Behaviour, Parcel};
 use std::alloc::Global;
-use timeline::Timeline;
+use timeline::{Cross, Timeline};
 
 // ---- post
 
@@ -100,6 +100,72 @@ fn has_news<P>(parcel: &Parcel<P>, appointment: u64) -> bool
     parcel.events.len() > 0 || parcel.promise > appointment
 }
 
+/// Whether the timeline, which executes up to the time `until`, in ticks, can post on a channel: its outbox
+/// is not empty, or its promise is above the mail's appointment.
+pub fn may_post<B: Behaviour>(
+    timeline: &Timeline<B>,
+    channel: u32,
+    mail: &Mail<B::Payload>,
+    until: u64,
+) -> bool
+    requires until { timeline.now.until ≡ until }
+    requires out { Among channel (numbers_of timeline.now.out_ends) }
+    requires crosses { HasItsCrosses timeline.now }
+    requires mail { Contains mail.now.channels channel }
+    requires joined { posted_to (mail_at mail.now channel) ≡ posted_of timeline.now.out_ends channel }
+    ensures { result ≡ can_post timeline.now channel (mail_at mail.now channel) }
+{
+    has_unposted(timeline, channel, mail)
+        || promise(timeline, channel, until) > mail.appointment(channel)
+}
+
+/// Whether the timeline's outbox on a channel, which goes to this mail, is not empty.
+fn has_unposted<B: Behaviour>(timeline: &Timeline<B>, channel: u32, mail: &Mail<B::Payload>) -> bool
+    requires out { Among channel (numbers_of timeline.now.out_ends) }
+    requires mail { Contains mail.now.channels channel }
+    requires joined { posted_to (mail_at mail.now channel) ≡ posted_of timeline.now.out_ends channel }
+    ensures { result ≡ nat_lt 0 (length (outbox_of timeline.now.out_ends channel)) }
+{
+    timeline.keeps_order();
+    timeline.written(channel) > mail.posted(channel)
+}
+
+/// What the timeline can promise on a channel: 0 on one that is no appointed one to another timeline.
+fn promise<B: Behaviour>(timeline: &Timeline<B>, channel: u32, until: u64) -> u64
+    requires until { timeline.now.until ≡ until }
+    requires crosses { HasItsCrosses timeline.now }
+    ensures { result ≡ promise_in timeline.now channel }
+{
+    timeline.keeps_order();
+    promise_among(timeline.outs(), channel, timeline.lower_bound(), until + 1)
+}
+
+/// What can be promised on a channel, which is that of the first of these mappings that has it, where the
+/// lower bound is `low`, at most `top`.
+fn promise_among(outs: &[Cross], channel: u32, low: u64, top: u64) -> u64
+    requires { top + 1 < 2 ^ 64 }
+    ensures { result ≡ promised_among outs.now channel low top }
+{
+    for cross in outs {
+        if cross.mapping.channel == channel {
+            return promise_on(cross, low, top);
+        }
+    }
+    0
+}
+
+/// What can be promised on the channel of a mapping where the lower bound is `low`, at most `top`.
+fn promise_on(cross: &Cross, low: u64, top: u64) -> u64
+    requires { top + 1 < 2 ^ 64 }
+    ensures { result ≡ promised_on cross.now low top }
+{
+    if cross.appointed {
+        low.saturating_add(cross.mapping.delay).min(top)
+    } else {
+        0
+    }
+}
+
 // ---- take
 
 /// Takes all that stands in the timeline's mail: the events become pending, and the appointments are
@@ -130,8 +196,9 @@ pub fn take_between<B: Behaviour>(
     Ok(Stepped::Did)
 }
 
-/// Whether the mail has an event, or an appointment above the one that the timeline holds.
-fn has_mail<B: Behaviour>(timeline: &Timeline<B>, mail: &Mail<B::Payload>) -> bool
+/// Whether the timeline can take something: its mail has an event, or an appointment above the one that
+/// the timeline holds.
+pub fn has_mail<B: Behaviour>(timeline: &Timeline<B>, mail: &Mail<B::Payload>) -> bool
     requires { IsMailOf mail.now timeline.now }
     ensures { result ≡ can_take timeline.now mail.now mail.now.channels }
 {
@@ -230,6 +297,55 @@ pub fn enter_from<B: Behaviour>(timeline: &mut Timeline<B>, barrier: &Barrier) -
     }
 }
 
+/// Whether the timeline can enter the barrier's window.
+pub fn may_enter<B: Behaviour>(timeline: &Timeline<B>, barrier: &Barrier) -> bool
+    requires { HasItsCrosses timeline.now }
+    ensures { result ≡ can_enter timeline.now barrier.now.window barrier.now.counts }
+{
+    timeline.entered() < barrier.window() && has_taken(timeline, barrier.counts())
+}
+
+/// Whether the timeline has taken from each channel as much as the counts say.
+fn has_taken<B: Behaviour>(timeline: &Timeline<B>, counts: &[u64]) -> bool
+    requires { HasItsCrosses timeline.now }
+    ensures { result ≡ has_taken_all timeline.now.in_ends counts.now }
+{
+    timeline.keeps_order();
+    has_taken_from(timeline, timeline.ins(), counts)
+}
+
+/// The same of the channels of some mappings.
+fn has_taken_from<B: Behaviour>(timeline: &Timeline<B>, ins: &[Cross], counts: &[u64]) -> bool
+    requires { numbers_of timeline.now.in_ends ≡ map channel_of ins.now }
+    ensures { result ≡ has_taken_on timeline.now.in_ends counts.now ins.now }
+{
+    for cross in ins {
+        let count = count_at(counts, cross.place);
+        if !has_taken_up_to(timeline, cross.mapping.channel, count) {
+            return false;
+        }
+    }
+    true
+}
+
+/// Whether the timeline has taken so many events from a channel.
+fn has_taken_up_to<B: Behaviour>(timeline: &Timeline<B>, channel: u32, count: u64) -> bool
+    requires known { Among channel (numbers_of timeline.now.in_ends) }
+    ensures { result ≡ nat_le count (taken_of timeline.now.in_ends channel) }
+{
+    count <= timeline.taken(channel)
+}
+
+/// The count at a place, and 0 where there is none.
+fn count_at(counts: &[u64], place: u32) -> u64
+    ensures { result ≡ slice_index counts.now place }
+{
+    match counts.get(place as usize) {
+        Some(count) => *count,
+        None => 0,
+    }
+}
+
 // ---- report
 
 /// Reports to the barrier the timeline's least time ahead, and how many events it has written on each
@@ -261,8 +377,8 @@ pub fn report_to<B: Behaviour>(
     Ok(Stepped::Did)
 }
 
-/// Whether the timeline's report is due.
-fn may_report<B: Behaviour>(timeline: &Timeline<B>, number: u32, barrier: &Barrier) -> bool
+/// Whether the timeline, whose number this is, can report.
+pub fn may_report<B: Behaviour>(timeline: &Timeline<B>, number: u32, barrier: &Barrier) -> bool
     requires { number < length barrier.now.reports }
     ensures { result ≡ can_report timeline.now number barrier.now }
 {

@@ -11,6 +11,8 @@ pub mod laws;
 mod schedules;
 mod steps;
 
-pub use between::{enter_from, post_between, report_to, take_between};
+pub use between::{
+    enter_from, has_mail, may_enter, may_post, may_report, post_between, report_to, take_between,
+};
 pub use schedules::{ScheduleFault, read_schedule};
 pub use steps::{Step, Stepped};

@@ -1,0 +1,12 @@
+pub mod Lists
+pub mod FoundEnds
+pub mod Keeping
+pub mod Opening
+pub mod Beginning
+pub mod Allowing
+pub mod Listing
+pub mod Making
+pub mod Reported
+pub mod Leading
+pub mod Meeting
+pub mod Running
