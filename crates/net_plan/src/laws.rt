@@ -1,12 +1,13 @@
 //! Laws of the plans of networks. Each function's contract is a law, and its body is empty.
-ghost use Rattle.std.specs.Prelude.{◌≡◌, ◌<◌, ◌≤◌, ◌+◌, ℕ, List, [], None, Some, length, take, slice_get};
+ghost use Rattle.std.specs.Prelude.{◌≡◌, ◌<◌, ◌≤◌, ◌+◌, ℕ, List, [], None, Some, length, map, take, slice_get};
 ghost use Rattle.spf_routes.specs.declared.graph.Period.{Period};
+ghost use Rattle.ssf_model.specs.declared.entity.Entity.{Entity};
 ghost use Rattle.ssf_model.specs.declared.plan.Plan.{Plan};
 ghost use Rattle.ssf_model.specs.Reaction.{Each};
-ghost use Rattle.ssf_model.specs.Drafts.{empty_draft, entity_refusal, in_channel_refusal, out_channel_refusal, mapping_refusal, planned, IsValidDraft};
+ghost use Rattle.ssf_model.specs.Drafts.{empty_draft, entity_refusal, in_channel_refusal, out_channel_refusal, mapping_refusal, start, IsValidDraft};
 ghost use Rattle.ip_layer.specs.Packets.{PacketFields};
 ghost use Rattle.net_graph.specs.declared.rows.Network.{Network};
-ghost use Rattle.net_graph.specs.Networks.{IsNetwork};
+ghost use Rattle.net_graph.specs.Networks.{IsNetwork, numbers};
 ghost use Rattle.net_layout.specs.declared.wiring.Wire.{Wire};
 ghost use Rattle.net_layout.specs.Wiring.{wires_of, mappings_of};
 ghost use Rattle.net_layout.specs.Ports.{port_count};
@@ -45,4 +46,13 @@ pub fn networks_have_plans<B>()
     ensures valid { (behaviour : B) (network : Network) (tables : List (List Period)) → IsNetwork network → KeepsLimits network → Each (IsValidDraft IsHost) (net_draft behaviour network tables).entities }
     ensures one { (behaviour : B) (network : Network) (a b : Plan B HostFields PacketFields) → IsNetBuilt behaviour network a → IsNetBuilt behaviour network b → a ≡ b }
     ensures mappings { (behaviour : B) (network : Network) (plan : Plan B HostFields PacketFields) → IsNetwork network → IsNetBuilt behaviour network plan → plan.mappings ≡ mappings_of network }
+{}
+
+/// A network's plan begins afresh: no host has a session, and the start events of the hosts alone are
+/// pending.
+pub fn plans_begin_afresh<B>()
+    ensures sessions { (behaviour : B) (network : Network) (plan : Plan B HostFields PacketFields) → IsNetBuilt behaviour network plan
+        → Each (λ (host : Entity B HostFields PacketFields). host.state.stack.sessions ≡ []) plan.entities }
+    ensures events { (behaviour : B) (network : Network) (plan : Plan B HostFields PacketFields) → IsNetBuilt behaviour network plan
+        → plan.events ≡ map start (numbers (length network.hosts)) }
 {}
