@@ -1,1 +1,2 @@
 pub mod NetDraft
+pub mod NetPlan
