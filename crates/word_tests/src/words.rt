@@ -17,13 +17,15 @@ const TEN: Option<Command> = Some(Command::Seq {
     budget: 1_000_000_000,
 });
 
+const CAMPUS: Option<Command> = Some(Command::Gen { seed: 7, size: 10 });
+
 const FEW: Option<Command> = Some(Command::Seq {
     until: 10,
     budget: 3,
 });
 
 /// Words in the table, and words that are not.
-const CASES: [Case; 41] = [
+const CASES: [Case; 51] = [
     Case {
         words: "seq --until 10 m.dml",
         asked: TEN,
@@ -88,6 +90,59 @@ const CASES: [Case; 41] = [
         words: "plan plan",
         asked: Some(Command::Plan),
         files: "plan ",
+    },
+    Case {
+        words: "gen --seed 7",
+        asked: CAMPUS,
+        files: "",
+    },
+    Case {
+        words: "gen --size 10 --seed 7",
+        asked: CAMPUS,
+        files: "",
+    },
+    Case {
+        words: "gen --seed 1000000000000000000 --size 1000",
+        asked: Some(Command::Gen {
+            seed: 1_000_000_000_000_000_000,
+            size: 1_000,
+        }),
+        files: "",
+    },
+    Case {
+        words: "gen",
+        asked: None,
+        files: "",
+    },
+    Case {
+        words: "gen --seed 7 m.dml",
+        asked: None,
+        files: "",
+    },
+    Case {
+        words: "gen --seed 7 --size 0",
+        asked: None,
+        files: "",
+    },
+    Case {
+        words: "gen --seed 7 --size 1001",
+        asked: None,
+        files: "",
+    },
+    Case {
+        words: "gen --seed 1000000000000000001",
+        asked: None,
+        files: "",
+    },
+    Case {
+        words: "gen --seed 7 --until 1",
+        asked: None,
+        files: "",
+    },
+    Case {
+        words: "seq --until 10 --seed 7 m.dml",
+        asked: None,
+        files: "",
     },
     Case {
         words: "",
