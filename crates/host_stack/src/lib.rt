@@ -1,8 +1,7 @@
 //! Hosts: what they do at an event, by the rules of `host_rules`.
 //!
 //! Contracts cite the definitions of `host_rules`, of which each function here is one, and
-//! `specs/Keeping.antt` (what the state of a host keeps, and what follows a session's turn). The tests
-//! stand in `host_tests`.
+//! `specs/Keeping.antt` (what the state of a host keeps, and what follows a session's turn).
 #![tactic(auto)]
 
 mod arrival;
