@@ -101,7 +101,6 @@ one_of_files names number name (refusal.Read file) within is h =
 one_of_files names number name (refusal.Dml file f) within is h =
     (subst (λ (g : List ℕ). Contains (map string_bytes names) g) (same_file (string_bytes name) file h.0) (contains_at names number name within is), h.1)
 one_of_files names number name (refusal.Path file f) within is h = h
-one_of_files names number name refusal.NotYet within is h = h
 one_of_files names number name (refusal.Shape f) within is h = h
 one_of_files names number name refusal.Write within is h = h
 one_of_files names number name (refusal.Budget budget) within is h = h

@@ -7,5 +7,6 @@ pub mod NoFiles
 pub mod OneOutcome
 pub mod Pieces
 pub mod RunOutcome
+pub mod Running
 pub mod Weights
 pub mod Worked

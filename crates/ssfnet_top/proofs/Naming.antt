@@ -1,4 +1,4 @@
--- The plan of a ring, and the entries of its run.
+-- The plan of a ring, and the entries of the run of a plan.
 use Rattle.std.proofs.Common.{ℕ, ◌≡◌, ◌<◌, ◌≤◌, ◌+◌, ◌∙◌, sym, ap, subst, refl, List, length, Bool, true, false, Ok, Err, All, arith, cond, nat_lt}
 use Rattle.std.specs.List.{list_any}
 use Rattle.event_order.specs.Machine.{within}
@@ -6,26 +6,26 @@ use Rattle.dml_tree.specs.declared.tree.Attribute.{Attribute}
 use Rattle.net_graph.specs.declared.fault.ShapeFault.TheVariants.{DelayTooLong, TooManyChannels}
 use Rattle.ssf_model.specs.declared.event.Entry.{Entry}
 use Rattle.ssf_model.specs.declared.plan.Plan.{Plan}
-use Rattle.ssf_model.specs.Reaction.{LatestTime}
+use Rattle.ssf_model.specs.Reaction.{LatestTime, Reaction, Validity, KeepsValid}
+use Rattle.ssf_model.specs.Deliver.{IsModest}
 use Rattle.ssf_model.specs.Drafts.{planned, MostChannels}
 use Rattle.ring_model.specs.declared.ring.Ring.{Ring}
 use Rattle.ring_model.specs.declared.ring.RingState.{RingState}
 use Rattle.ring_model.specs.declared.ring.RingPayload.{RingPayload}
-use Rattle.ring_model.specs.Reacting.{IsRing, AnyPayload, ring_reaction}
-use Rattle.ring_model.specs.RingLaws.{ring_sound, ring_modest}
 use Rattle.net_build.specs.declared.built.Built.{Built}
 use Rattle.net_build.specs.RingModel.{RingKeys, Read, then_read, ring_of, built_of, build, ring_plan_of, is_long}
 use Rattle.ssf_model.specs.Run.{Fits, run_entries}
 use Rattle.run_health.proofs.Staying.{entries_named}
 
--- each entry of a ring's run has a name where each entity has one
-pub names_fit : (plan : Plan Ring RingState RingPayload) (until budget names : ℕ) (entries given : List Entry) → until ≤ LatestTime → Fits IsRing AnyPayload plan
-    → length entries ≤ budget → ((R : ℕ) → budget ≤ R → entries ≡ run_entries ring_reaction plan until (within R) (length entries)) → names ≡ length plan.entities
+-- each entry of a run has a name where each entity has one
+pub names_fit : {B S P : Type 0} (valid : Validity S) (carried : P → Type 0) (r : Reaction S P) → KeepsValid valid carried r → IsModest valid carried r
+    → (plan : Plan B S P) (until budget names : ℕ) (entries given : List Entry) → until ≤ LatestTime → Fits valid carried plan
+    → length entries ≤ budget → ((R : ℕ) → budget ≤ R → entries ≡ run_entries r plan until (within R) (length entries)) → names ≡ length plan.entities
     → given ≡ entries → All (λ (e : Entry). e.entity < names) given
-names_fit plan until budget names entries given in_time fits few prefix named same =
+names_fit valid carried r sound modest plan until budget names entries given in_time fits few prefix named same =
     let reached : budget ≤ budget = omega arith in
-    let all : All (λ (e : Entry). e.entity < length plan.entities) (run_entries ring_reaction plan until (within budget) (length entries)) =
-    entries_named ring_reaction IsRing AnyPayload ring_sound ring_modest plan until in_time fits (within budget) (length entries) in
+    let all : All (λ (e : Entry). e.entity < length plan.entities) (run_entries r plan until (within budget) (length entries)) =
+    entries_named r valid carried sound modest plan until in_time fits (within budget) (length entries) in
     let Q : List Entry → Type 0 = λ es. All (λ (e : Entry). e.entity < length plan.entities) es in
     let N : ℕ → Type 0 = λ n. All (λ (e : Entry). e.entity < n) given in
     subst N (sym named) (subst Q (sym (same ∙ prefix budget reached)) all)

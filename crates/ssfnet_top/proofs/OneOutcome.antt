@@ -1,6 +1,7 @@
 -- There is at most one outcome.
-use Rattle.std.proofs.Common.{ℕ, ◌≡◌, ◌<◌, ◌≤◌, ◌+◌, ◌⊎◌, inl, inr, ◌∙◌, sym, ap, refl, Bool, true, false, List, [], ◌∷◌, Option, Some, None, IsSome, Result, Ok, Err, arith}
+use Rattle.std.proofs.Common.{ℕ, ◌≡◌, ◌<◌, ◌≤◌, ◌+◌, ◌⊎◌, inl, inr, ◌∙◌, sym, ap, subst, refl, Bool, true, false, List, [], ◌∷◌, Option, Some, None, IsSome, Result, Ok, Err, arith}
 use Rattle.sim_base.specs.Outside.{Files}
+use Rattle.dml_tree.specs.declared.tree.Attribute.{Attribute}
 use Rattle.dml_tree.specs.Attributes.{Attributes}
 use Rattle.dml_tree.specs.TreeView.{attributes, joined}
 use Rattle.dml_tree.proofs.OneMeaning.{one_meaning}
@@ -15,7 +16,13 @@ use Rattle.net_graph.specs.NetworkOf.{network_of}
 use Rattle.net_layout.specs.Faults.{first_fault}
 use Rattle.net_build.specs.declared.built.Built.{Built}
 use Rattle.net_build.specs.PlanText.{ring_text_of}
+use Rattle.net_build.specs.RingModel.{ring_plan_of}
 use Rattle.net_build.proofs.OneText.{plan_texts_one}
+use Rattle.net_plan.proofs.Refusing.{plans_one}
+use Rattle.host_stack.specs.declared.host.Host.{Host}
+use Rattle.host_rules.specs.Hosts.{HostFields}
+use Rattle.host_rules.specs.Reacting.{host_reaction}
+use Rattle.ip_layer.specs.Packets.{PacketFields}
 use Rattle.network_laws.proofs.Lawful.{network_lawful}
 use Rattle.ring_model.specs.declared.ring.Ring.{Ring}
 use Rattle.ring_model.specs.declared.ring.RingState.{RingState}
@@ -31,7 +38,7 @@ use Rattle.command_words.specs.declared.command.Command.{Command}
 use Rattle.command_words.specs.declared.command.Command.TheVariants as commands
 use Rattle.ssfnet_top.specs.declared.refusal.Refusal.{Refusal}
 use Rattle.command_words.specs.Words.{Asked, asked_of_words}
-use Rattle.ssfnet_top.specs.Outcome.{Due, done, meant, IsRead, AreRead, resolved_of, shaped, model_of, unless, planned_network, counts_of, IsText, IsNetworkPlan, IsPlanIn, IsPlan, HasEvents, IsWithin, IsOver, IsModelRun, IsPrinted, IsCommandDue, IsTreeDue, IsAskedDue, IsOutcome}
+use Rattle.ssfnet_top.specs.Outcome.{Due, done, meant, IsRead, AreRead, resolved_of, shaped, unless, planned_network, counts_of, IsText, IsNetworkPlan, IsPlanIn, IsPlan, HasEvents, IsWithin, IsOver, IsRunDue, IsRingRun, IsNetworkRun, IsRunIn, IsModelRun, IsPrinted, IsCommandDue, IsTreeDue, IsAskedDue, IsOutcome}
 
 -- a file has one reading
 read_once : (name : List ℕ) (number : ℕ) (o : Option (List ℕ)) (a b : Result Attributes Refusal) → IsRead name number o a → IsRead name number o b → a ≡ b
@@ -89,12 +96,6 @@ module _ {B S P : Type 0} (r : Reaction S P) (plan : Plan B S P) (until R : ℕ)
     run_once (inr p) (inl q) = absurd (let low = before_no_more budget q.count p.more q.events.no_more in let few = q.few in omega arith)
     run_once (inr p) (inr q) = p.first ∙ sym q.first
 
-model_once : (until budget : ℕ) (m : Result (Built Ring RingState RingPayload) Refusal) (due other : Due) → IsModelRun until budget m due → IsModelRun until budget m other → due ≡ other
-model_once until budget (Ok built) due other p q =
-    let here : budget ≤ budget = omega arith in
-    run_once ring_reaction built.plan until budget built.names budget due other (p budget here) (q budget here)
-model_once until budget (Err r) due other p q = p ∙ sym q
-
 printed_once : (tree : Result Attributes Refusal) (due other : Due) → IsPrinted tree due → IsPrinted tree other → due ≡ other
 printed_once (Ok tree) due other p q = p ∙ sym q
 printed_once (Err r) due other p q = p ∙ sym q
@@ -126,12 +127,42 @@ plan_once : (tree : Result Attributes Refusal) (due other : Due) → IsPlan tree
 plan_once (Ok tree) due other p q = plan_in_once (has_net (attributes tree)) tree due other p q
 plan_once (Err r) due other p q = p ∙ sym q
 
+-- a ring has one run
+ring_run_once : (until budget : ℕ) (r : Read (Built Ring RingState RingPayload)) (due other : Due) → IsRingRun until budget r due → IsRingRun until budget r other → due ≡ other
+ring_run_once until budget (Ok built) due other p q =
+    let here : budget ≤ budget = omega arith in
+    run_once ring_reaction built.plan until budget built.names budget due other (p budget here) (q budget here)
+ring_run_once until budget (Err fault) due other p q = p ∙ sym q
+
+-- so has a network of hosts, which has one plan and one list of names
+names_same : (a b : Names) → a.names ≡ b.names → a ≡ b
+names_same a b same = ap (λ (names : List (List ℕ)). record { names = names }) same
+
+network_run_once : (until budget : ℕ) (r : Read Network) (due other : Due) → IsNetworkRun until budget r due → IsNetworkRun until budget r other → due ≡ other
+network_run_once until budget (Ok network) due other p q =
+    let here : budget ≤ budget = omega arith in
+    let plan : p.0.plan ≡ q.0.plan = plans_one (record {}) network p.0.plan q.0.plan p.1.plan q.1.plan in
+    let names : p.0.names ≡ q.0.names = names_same p.0.names q.0.names (p.1.names ∙ sym q.1.names) in
+    let run : IsRunDue host_reaction q.0.plan q.0.names until budget due =
+    subst (λ (n : Names). IsRunDue host_reaction q.0.plan n until budget due) names
+    (subst (λ (l : Plan Host HostFields PacketFields). IsRunDue host_reaction l p.0.names until budget due) plan p.2) in
+    run_once host_reaction q.0.plan until budget q.0.names budget due other (run budget here) (q.2 budget here)
+network_run_once until budget (Err fault) due other p q = p ∙ sym q
+
+run_in_once : (until budget : ℕ) (is_net : Bool) (root : List Attribute) (due other : Due) → IsRunIn until budget is_net root due → IsRunIn until budget is_net root other → due ≡ other
+run_in_once until budget true root due other p q = network_run_once until budget (planned_network root) due other p q
+run_in_once until budget false root due other p q = ring_run_once until budget (ring_plan_of root) due other p q
+
+model_run_once : (until budget : ℕ) (tree : Result Attributes Refusal) (due other : Due) → IsModelRun until budget tree due → IsModelRun until budget tree other → due ≡ other
+model_run_once until budget (Ok tree) due other p q = run_in_once until budget (has_net (attributes tree)) (attributes tree) due other p q
+model_run_once until budget (Err r) due other p q = p ∙ sym q
+
 command_once : (command : Command) (names : List (List ℕ)) (tree : Attributes) (due other : Due) → IsCommandDue command names tree due → IsCommandDue command names tree other → due ≡ other
 command_once (commands.Dml false) names tree due other p q = p ∙ sym q
 command_once (commands.Dml true) names tree due other p q = printed_once (resolved_of names tree) due other p q
 command_once commands.Check names tree due other p q = text_once (counts_of (resolved_of names tree)) due other p q
 command_once commands.Plan names tree due other p q = plan_once (resolved_of names tree) due other p q
-command_once (commands.Seq until budget) names tree due other p q = model_once until budget (model_of names tree) due other p q
+command_once (commands.Seq until budget) names tree due other p q = model_run_once until budget (resolved_of names tree) due other p q
 command_once (commands.Gen seed size) names tree due other p q = p ∙ sym q
 command_once _ names tree due other p q = absurd p
 

@@ -43,14 +43,6 @@ HasModel commands.Plan = Unit {0}
 HasModel (commands.Seq until most) = Unit {0}
 HasModel _ = ⊥
 
--- a Net cannot be run yet
-abbrev pub RunsModel : Command → Type 0
-RunsModel (commands.Dml flat) = ⊥
-RunsModel commands.Check = ⊥
-RunsModel commands.Plan = ⊥
-RunsModel (commands.Seq until most) = Unit {0}
-RunsModel _ = ⊥
-
 -- the file is that of the fault, and one of these
 abbrev pub IsFaultOf : List (List ℕ) → List ℕ → PathFault → Type 0
 IsFaultOf names file fault = (file ≡ file_of_fault names fault) × IsPlaced names fault × ¬ (fault ≡ path_fault.Memory)
@@ -61,7 +53,6 @@ Concerns asked refusal.Words = asked ≡ None
 Concerns asked (refusal.Read file) = IsFileOf asked file
 Concerns asked (refusal.Dml file fault) = IsFileOf asked file × ¬ (fault ≡ tree_fault.Memory)
 Concerns asked (refusal.Path file fault) = IsSomeAnd asked (λ a. Resolves a.command × IsFaultOf a.files file fault)
-Concerns asked refusal.NotYet = IsSomeAnd asked (λ a. RunsModel a.command)
 Concerns asked (refusal.Shape fault) = IsSomeAnd asked (λ a. HasModel a.command) × ¬ (fault ≡ shape_fault.Memory)
 Concerns asked refusal.Write = IsSome asked
 Concerns asked (refusal.Budget budget) = IsSomeAnd asked (λ a. HasBudget a.command budget)
@@ -146,7 +137,6 @@ IsOfFiles names refusal.Words = ⊥
 IsOfFiles names (refusal.Read file) = Contains names file
 IsOfFiles names (refusal.Dml file fault) = Contains names file × ¬ (fault ≡ tree_fault.Memory)
 IsOfFiles names (refusal.Path file fault) = ⊥
-IsOfFiles names refusal.NotYet = ⊥
 IsOfFiles names (refusal.Shape fault) = ⊥
 IsOfFiles names refusal.Write = ⊥
 IsOfFiles names (refusal.Budget budget) = ⊥
@@ -158,7 +148,6 @@ IsOfModel names refusal.Words = ⊥
 IsOfModel names (refusal.Read file) = ⊥
 IsOfModel names (refusal.Dml file fault) = ⊥
 IsOfModel names (refusal.Path file fault) = IsFaultOf names file fault
-IsOfModel names refusal.NotYet = Unit {0}
 IsOfModel names (refusal.Shape fault) = ¬ (fault ≡ shape_fault.Memory)
 IsOfModel names refusal.Write = ⊥
 IsOfModel names (refusal.Budget budget) = ⊥
@@ -170,10 +159,20 @@ IsOfCommand command names refusal.Words = ⊥
 IsOfCommand command names (refusal.Read file) = ⊥
 IsOfCommand command names (refusal.Dml file fault) = ⊥
 IsOfCommand command names (refusal.Path file fault) = Resolves command × IsFaultOf names file fault
-IsOfCommand command names refusal.NotYet = RunsModel command
 IsOfCommand command names (refusal.Shape fault) = HasModel command × ¬ (fault ≡ shape_fault.Memory)
 IsOfCommand command names refusal.Write = Unit {0}
 IsOfCommand command names (refusal.Budget budget) = HasBudget command budget
+
+-- Within a call, where the model of a resolved tree is run: what a refusal may be.
+abbrev pub IsOfRun : ℕ → Refusal → Type 0
+IsOfRun budget refusal.Memory = Unit {0}
+IsOfRun budget refusal.Words = ⊥
+IsOfRun budget (refusal.Read file) = ⊥
+IsOfRun budget (refusal.Dml file fault) = ⊥
+IsOfRun budget (refusal.Path file fault) = ⊥
+IsOfRun budget (refusal.Shape fault) = ¬ (fault ≡ shape_fault.Memory)
+IsOfRun budget refusal.Write = Unit {0}
+IsOfRun budget (refusal.Budget most) = most ≡ budget
 
 -- Within a call, where the text of an outcome is written to a sink.
 

@@ -1,6 +1,6 @@
 -- What a command is to answer, by its words and the told files alone: the status, and the bytes that are due on
 -- `out` and on `err`.
-use Rattle.std.specs.Prelude.{ℕ, ◌≡◌, ◌+◌, ◌<◌, ◌≤◌, ◌⊎◌, Bool, if◌then◌else◌, true, false, slice_index_or, List, [], ◌∷◌, ◌++◌, Option, Some, None, IsSome, Result, Ok, Err}
+use Rattle.std.specs.Prelude.{ℕ, ◌≡◌, ◌+◌, ◌<◌, ◌≤◌, ◌⊎◌, Bool, true, false, slice_index_or, List, [], ◌∷◌, ◌++◌, Option, Some, None, IsSome, Result, Ok, Err}
 use Rattle.sim_base.specs.Outside.{Files}
 use Rattle.dml_tree.specs.declared.tree.Attribute.{Attribute}
 use Rattle.dml_tree.specs.Attributes.{Attributes, none}
@@ -17,6 +17,11 @@ use Rattle.net_graph.specs.Keys.{has_net}
 use Rattle.net_graph.specs.Reads.{Read, then_read}
 use Rattle.net_graph.specs.NetworkOf.{network_of}
 use Rattle.net_layout.specs.Faults.{first_fault}
+use Rattle.net_plan.specs.NetPlan.{IsPlanOf}
+use Rattle.host_stack.specs.declared.host.Host.{Host}
+use Rattle.host_rules.specs.Hosts.{HostFields}
+use Rattle.host_rules.specs.Reacting.{host_reaction}
+use Rattle.ip_layer.specs.Packets.{PacketFields}
 use Rattle.net_build.specs.declared.built.Built.{Built}
 use Rattle.net_build.specs.RingModel.{ring_plan_of, ring_counts_of}
 use Rattle.net_build.specs.PlanText.{IsPlanText, ring_text_of}
@@ -114,15 +119,6 @@ abbrev pub shaped : {A : Type 0} → Result A ShapeFault → Result A Refusal
 shaped (Ok model) = Ok model
 shaped (Err fault) = Err (refusal.Shape fault)
 
--- the plan of a resolved tree that can be run; a Net has none yet
-abbrev pub model_in : Result Attributes Refusal → Result (Built Ring RingState RingPayload) Refusal
-model_in (Ok tree) = if has_net (attributes tree) then Err refusal.NotYet else shaped (ring_plan_of (attributes tree))
-model_in (Err r) = Err r
-
--- the model of the joined tree of files with these names
-abbrev pub model_of : List (List ℕ) → Attributes → Result (Built Ring RingState RingPayload) Refusal
-model_of names tree = model_in (resolved_of names tree)
-
 -- The counts of a model, and the text of its plan.
 
 -- a network without this fault
@@ -185,8 +181,24 @@ IsRunDue r plan names until budget due = (R : ℕ) → budget ≤ R → IsWithin
 
 -- The commands.
 
-abbrev pub IsModelRun : ℕ → ℕ → Result (Built Ring RingState RingPayload) Refusal → Due → Type 0
-IsModelRun until budget (Ok built) due = IsRunDue ring_reaction built.plan built.names until budget due
+-- the run of a ring's plan, or the first fault of the ring
+abbrev pub IsRingRun : ℕ → ℕ → Read (Built Ring RingState RingPayload) → Due → Type 0
+IsRingRun until budget (Ok built) due = IsRunDue ring_reaction built.plan built.names until budget due
+IsRingRun until budget (Err fault) due = due ≡ refused (refusal.Shape fault) []
+
+-- the run of the plan of a network of hosts, or the first fault of the network
+abbrev pub IsNetworkRun : ℕ → ℕ → Read Network → Due → Type 0
+IsNetworkRun until budget (Ok network) due =
+    (built : Built Host HostFields PacketFields) × IsPlanOf network built × IsRunDue host_reaction built.plan built.names until budget due
+IsNetworkRun until budget (Err fault) due = due ≡ refused (refusal.Shape fault) []
+
+-- the run of a resolved tree, whose model is a Net or not
+abbrev pub IsRunIn : ℕ → ℕ → Bool → List Attribute → Due → Type 0
+IsRunIn until budget true root due = IsNetworkRun until budget (planned_network root) due
+IsRunIn until budget false root due = IsRingRun until budget (ring_plan_of root) due
+
+abbrev pub IsModelRun : ℕ → ℕ → Result Attributes Refusal → Due → Type 0
+IsModelRun until budget (Ok tree) due = IsRunIn until budget (has_net (attributes tree)) (attributes tree) due
 IsModelRun until budget (Err r) due = due ≡ refused r []
 
 abbrev pub IsPrinted : Result Attributes Refusal → Due → Type 0
@@ -200,7 +212,7 @@ IsCommandDue (commands.Dml false) names tree due = IsPrinted (Ok tree) due
 IsCommandDue (commands.Dml true) names tree due = IsPrinted (resolved_of names tree) due
 IsCommandDue commands.Check names tree due = IsText (counts_of (resolved_of names tree)) due
 IsCommandDue commands.Plan names tree due = IsPlan (resolved_of names tree) due
-IsCommandDue (commands.Seq until budget) names tree due = IsModelRun until budget (model_of names tree) due
+IsCommandDue (commands.Seq until budget) names tree due = IsModelRun until budget (resolved_of names tree) due
 IsCommandDue (commands.Gen seed size) names tree due = IsText (Ok (campus_text seed size)) due
 -- no words ask for the commands that have not landed
 IsCommandDue _ names tree due = ⊥

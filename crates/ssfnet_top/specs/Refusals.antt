@@ -1,7 +1,7 @@
 -- What the program answers where it does not end well: the status, and the line on `err`.
 use Rattle.std.specs.Prelude.{ℕ, nat_lt, if◌then◌else◌, List, ◌∷◌, ◌++◌, map, codes, decimal}
 use Rattle.ssfnet_top.specs.declared.refusal.Refusal.{Refusal}
-use Rattle.ssfnet_top.specs.declared.refusal.Refusal.TheVariants.{Memory, Words, Read, Dml, Path, NotYet, Shape, Write, Budget}
+use Rattle.ssfnet_top.specs.declared.refusal.Refusal.TheVariants.{Memory, Words, Read, Dml, Path, Shape, Write, Budget}
 use Rattle.dml_tree.specs.declared.reading.TreeFault.{TreeFault}
 use Rattle.dml_tree.specs.declared.reading.TreeFault.TheVariants.{BadByte, OpenQuote, KeyWanted, ValueWanted, OpenList, StrayClose, NestedTooDeep, TooLong, Memory as TreeMemory}
 use Rattle.dml_tree.specs.declared.tree.Place.{Place}
@@ -24,7 +24,6 @@ status_of Words = 2
 status_of (Read file) = 3
 status_of (Dml file fault) = 4
 status_of (Path file fault) = 5
-status_of NotYet = 6
 status_of (Shape fault) = 6
 status_of Write = 7
 status_of (Budget budget) = 8
@@ -77,7 +76,6 @@ line_of Words = codes "words"
 line_of (Read file) = codes "read " ++ printable file
 line_of (Dml file fault) = codes "dml " ++ printable file ++ 32 ∷ tree_fault_text fault
 line_of (Path file fault) = codes "path " ++ path_fault_text file fault
-line_of NotYet = codes "shape NotYet"
 line_of (Shape fault) = codes "shape " ++ shape_fault_text fault
 line_of Write = codes "write"
 line_of (Budget budget) = codes "budget list " ++ decimal budget

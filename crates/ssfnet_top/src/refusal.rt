@@ -24,8 +24,6 @@ pub enum Refusal {
     /// A substitution has this fault, which stands in the file of this name; a fault without a place
     /// names none.
     Path { file: Text, fault: PathFault },
-    /// The model needs a part that this program does not have yet.
-    NotYet,
     /// The model has this fault.
     Shape(ShapeFault),
     /// The output could not be written.
@@ -87,7 +85,7 @@ impl Refusal {
             Refusal::Read(_) => 3,
             Refusal::Dml { .. } => 4,
             Refusal::Path { .. } => 5,
-            Refusal::NotYet | Refusal::Shape(_) => 6,
+            Refusal::Shape(_) => 6,
             Refusal::Write => 7,
             Refusal::Budget(_) => 8,
         }
@@ -107,7 +105,6 @@ impl Refusal {
             Refusal::Read(file) => push_after(out, b"read ", file)?,
             Refusal::Dml { file, fault } => push_dml(out, file, fault)?,
             Refusal::Path { file, fault } => push_path(out, file, fault)?,
-            Refusal::NotYet => push(out, b"shape NotYet")?,
             Refusal::Shape(fault) => push_shape(out, fault)?,
             Refusal::Write => push(out, b"write")?,
             Refusal::Budget(budget) => push_count(out, b"budget list ", *budget)?,

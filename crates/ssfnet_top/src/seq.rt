@@ -1,13 +1,19 @@
 //! The command `seq`: the plan of a model, its run by one event list, and the trace.
-ghost use Rattle.std.specs.Prelude.{◌≡◌, ◌≤◌, ◌<◌, ◌⊎◌, [], length, map, string_bytes, All, IfOk, IfErr, OnOk, OnErr};
-ghost use Rattle.ring_model.specs.Reacting.{IsRing, AnyPayload, ring_reaction};
+ghost use Rattle.std.specs.Prelude.{◌≡◌, ◌≤◌, ◌<◌, ◌⊎◌, [], true, false, Err, length, map, string_bytes, All, IfOk, IfErr, IsOkAnd, OnOk, OnErr};
+ghost use Rattle.dml_tree.specs.TreeView.{attributes};
+ghost use Rattle.net_graph.specs.Keys.{has_net};
+ghost use Rattle.net_build.specs.RingModel.{HasFewTokens};
+ghost use Rattle.net_plan.specs.NetPlan.{IsPlanOf};
+ghost use Rattle.host_rules.specs.Limits.{IsHost};
+ghost use Rattle.ip_layer.specs.Packets.{IsPacket};
 ghost use Rattle.ssf_model.specs.Run.{Fits};
 ghost use Rattle.command_words.specs.Table.{LatestUntil, LargestBudget};
 ghost use Rattle.sim_base.specs.Outside.{Rose, Appends, AppendsPrefix};
 ghost use Rattle.trace_writer.specs.Trace.{entries_text, trace_text};
-ghost use Rattle.ssfnet_top.specs.Outcome.{model_of, IsRunDue, IsModelRun};
+ghost use Rattle.ssfnet_top.specs.Refusals.{status_of};
+ghost use Rattle.ssfnet_top.specs.Outcome.{resolved_of, planned_network, IsRunDue, IsRunIn, IsModelRun};
 ghost use Rattle.ssfnet_top.specs.FilePlaces.{ArePlaced};
-ghost use Rattle.ssfnet_top.specs.Ending.{Answers, IsOfModel, IsOfCommand};
+ghost use Rattle.ssfnet_top.specs.Ending.{Answers, IsOfModel, IsOfCommand, IsOfRun};
 
 use crate::Refusal;
 use crate::resolving::resolve_files;
@@ -15,11 +21,13 @@ use crate::sending::{flush, send_entries};
 use command_words::Command;
 use dml_tree::Tree;
 use global_list::{Single, SingleEnd, run_single};
+use host_stack::Host;
 use net_build::{Built, ring_plan};
-use net_graph::is_net;
-use ring_model::Ring;
+use net_graph::{ShapeFault, is_net};
+use net_plan::plan_of;
+use net_resolve::build_network;
 use sim_base::Sink;
-use ssf_model::{Entry, Names};
+use ssf_model::{Behaviour, Entry, Names};
 use std::alloc::Global;
 use trace_writer::end_line;
 
@@ -27,8 +35,8 @@ use trace_writer::end_line;
 /// ticks, and at most `budget` events, and writes the trace.
 ///
 /// # Errors
-/// `Path`, `NotYet` and `Shape` for a tree that has no plan, `Budget` where its run has more events, `Write`
-/// only where the sink's `faults` rose, and `Memory`.
+/// `Path` and `Shape` for a tree that has no plan, `Budget` where its run has more events, `Write` only
+/// where the sink's `faults` rose, and `Memory`.
 pub fn run_model<K: Sink>(
     alloc: Global,
     until: u64,
@@ -41,33 +49,98 @@ pub fn run_model<K: Sink>(
     requires least { 1 ≤ budget }
     requires budget { budget ≤ LargestBudget }
     requires placed { ArePlaced (map string_bytes names.now) tree.now }
-    ensures due { Answers (IsModelRun until budget (model_of (map string_bytes names.now) tree.now)) result (K.faults out.old) (K.faults out.new) (K.held out.old) (K.held out.new) }
+    ensures due { Answers (IsModelRun until budget (resolved_of (map string_bytes names.now) tree.now)) result (K.faults out.old) (K.faults out.new) (K.held out.old) (K.held out.new) }
     ensures cause { IfErr result (λ r. IsOfCommand (Command.Seq until budget) (map string_bytes names.now) r) }
     ensures write { IfErr result (λ r. r ≡ Refusal.Write → Rose (K.faults out.old) (K.faults out.new)) }
     ensures nothing { IfErr result (λ r. IsOfModel (map string_bytes names.now) r → ¬ (r ≡ Refusal.Memory) → Appends [] (K.held out.old) (K.held out.new)) }
 {
-    match build_ring(alloc, names, tree) {
-        Ok(built) => simulate(alloc, built, until, budget, out),
+    match resolve_files(alloc, names, tree) {
+        Ok(resolved) => run_resolved(alloc, until, budget, &resolved, out),
         Err(refusal) => Err(refusal),
     }
 }
 
-/// The plan of the ring that is the model of the joined tree of files with these names.
-fn build_ring(alloc: Global, names: &[String], tree: &Tree) -> Result<Built<Ring>, Refusal>
-    requires { ArePlaced (map string_bytes names.now) tree.now }
-    ensures model { IfOk result (λ built. model_of (map string_bytes names.now) tree.now ≡ Ok built) }
-    ensures cause { IfErr result (λ r. (r ≡ Refusal.Memory) ⊎ (model_of (map string_bytes names.now) tree.now ≡ Err r)) }
-    ensures refusal { IfErr result (λ r. IsOfModel (map string_bytes names.now) r) }
-    ensures fits { IfOk result (λ built. Fits IsRing AnyPayload built.plan) }
+/// Runs the model of a resolved tree.
+fn run_resolved<K: Sink>(
+    alloc: Global,
+    until: u64,
+    budget: u64,
+    tree: &Tree,
+    out: &mut K,
+) -> Result<(), Refusal>
+    requires until { until ≤ LatestUntil }
+    requires least { 1 ≤ budget }
+    requires budget { budget ≤ LargestBudget }
+    requires few { HasFewTokens (attributes tree.now) }
+    ensures due { Answers (IsRunIn until budget (has_net (attributes tree.now)) (attributes tree.now)) result (K.faults out.old) (K.faults out.new) (K.held out.old) (K.held out.new) }
+    ensures cause { IfErr result (λ r. IsOfRun budget r) }
+    ensures write { IfErr result (λ r. r ≡ Refusal.Write → Rose (K.faults out.old) (K.faults out.new)) }
+    ensures nothing { IfErr result (λ r. status_of r ≡ 6 → Appends [] (K.held out.old) (K.held out.new)) }
+{
+    if is_net(tree) {
+        run_network(alloc, until, budget, tree, out)
+    } else {
+        run_ring(alloc, until, budget, tree, out)
+    }
+}
+
+/// Runs the network of hosts of a resolved tree.
+fn run_network<K: Sink>(
+    alloc: Global,
+    until: u64,
+    budget: u64,
+    tree: &Tree,
+    out: &mut K,
+) -> Result<(), Refusal>
+    requires until { until ≤ LatestUntil }
+    requires least { 1 ≤ budget }
+    requires budget { budget ≤ LargestBudget }
+    ensures due { Answers (IsRunIn until budget true (attributes tree.now)) result (K.faults out.old) (K.faults out.new) (K.held out.old) (K.held out.new) }
+    ensures cause { IfErr result (λ r. IsOfRun budget r) }
+    ensures write { IfErr result (λ r. r ≡ Refusal.Write → Rose (K.faults out.old) (K.faults out.new)) }
+    ensures nothing { IfErr result (λ r. status_of r ≡ 6 → Appends [] (K.held out.old) (K.held out.new)) }
+{
+    match build_hosts(alloc, tree) {
+        Ok(built) => simulate(alloc, built, until, budget, out),
+        Err(fault) => Err(Refusal::from(fault)),
+    }
+}
+
+/// The plan of the network of hosts of a resolved tree.
+fn build_hosts(alloc: Global, tree: &Tree) -> Result<Built<Host>, ShapeFault>
+    ensures built { IfOk result (λ built. IsOkAnd (planned_network (attributes tree.now)) (λ network. IsPlanOf network built)) }
+    ensures fits { IfOk result (λ built. Fits IsHost IsPacket built.plan) }
     ensures named { IfOk result (λ built. length built.names.names ≡ length built.plan.entities) }
     ensures before { IfOk result (λ built. built.plan.before ≡ 0) }
+    ensures cause { IfErr result (λ fault. (fault ≡ ShapeFault.Memory) ⊎ (planned_network (attributes tree.now) ≡ Err fault)) }
 {
-    let resolved = resolve_files(alloc, names, tree)?;
-    if is_net(&resolved) {
-        return Err(Refusal::NotYet);
-    }
-    let built = ring_plan(alloc, &resolved)?;
+    let network = build_network(alloc, tree)?;
+    let built = plan_of(alloc, &network)?;
     Ok(built)
+}
+
+/// Runs the ring of a resolved tree.
+fn run_ring<K: Sink>(
+    alloc: Global,
+    until: u64,
+    budget: u64,
+    tree: &Tree,
+    out: &mut K,
+) -> Result<(), Refusal>
+    requires until { until ≤ LatestUntil }
+    requires least { 1 ≤ budget }
+    requires budget { budget ≤ LargestBudget }
+    requires model { has_net (attributes tree.now) ≡ false }
+    requires few { HasFewTokens (attributes tree.now) }
+    ensures due { Answers (IsRunIn until budget false (attributes tree.now)) result (K.faults out.old) (K.faults out.new) (K.held out.old) (K.held out.new) }
+    ensures cause { IfErr result (λ r. IsOfRun budget r) }
+    ensures write { IfErr result (λ r. r ≡ Refusal.Write → Rose (K.faults out.old) (K.faults out.new)) }
+    ensures nothing { IfErr result (λ r. status_of r ≡ 6 → Appends [] (K.held out.old) (K.held out.new)) }
+{
+    match ring_plan(alloc, tree) {
+        Ok(built) => simulate(alloc, built, until, budget, out),
+        Err(fault) => Err(Refusal::from(fault)),
+    }
 }
 
 /// Runs a plan by one event list up to `until`, in ticks, and at most `budget` events, and writes
@@ -75,20 +148,20 @@ fn build_ring(alloc: Global, names: &[String], tree: &Tree) -> Result<Built<Ring
 ///
 /// # Errors
 /// `Budget` where the run has more events, `Write` only where the sink's `faults` rose, `Memory`.
-fn simulate<K: Sink>(
+fn simulate<B: Behaviour, K: Sink>(
     alloc: Global,
-    built: Built<Ring>,
+    built: Built<B>,
     until: u64,
     budget: u64,
     out: &mut K,
 ) -> Result<(), Refusal>
-    requires plan { Fits IsRing AnyPayload built.plan }
+    requires plan { Fits (B.valid built.plan.behaviour) (B.carried built.plan.behaviour) built.plan }
     requires named { length built.names.names ≡ length built.plan.entities }
-    requires before { built.plan.before ≡ 0 }
     requires until { until ≤ LatestUntil }
     requires least { 1 ≤ budget }
     requires budget { budget ≤ LargestBudget }
-    ensures due { Answers (IsRunDue ring_reaction built.plan built.names until budget) result (K.faults out.old) (K.faults out.new) (K.held out.old) (K.held out.new) }
+    requires before { built.plan.before ≡ 0 }
+    ensures due { Answers (IsRunDue (B.reaction built.plan.behaviour) built.plan built.names until budget) result (K.faults out.old) (K.faults out.new) (K.held out.old) (K.held out.new) }
     ensures cause { IfErr result (λ r. (r ≡ Refusal.Memory) ⊎ ((r ≡ Refusal.Write) ⊎ (r ≡ Refusal.Budget budget))) }
     ensures write { IfErr result (λ r. r ≡ Refusal.Write → Rose (K.faults out.old) (K.faults out.new)) }
 {

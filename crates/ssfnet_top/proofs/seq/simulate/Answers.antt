@@ -1,22 +1,25 @@
-use Rattle.std.proofs.Common.{◌+◌, ap, inl, length, arith, List}
-use Rattle.ring_model.specs.Reacting.{ring_reaction}
+use Rattle.std.proofs.Common.{◌+◌, ap, refl, inl, inr, length, arith, List}
 use Rattle.trace_writer.specs.Trace.{entries_text, trace_text}
 use Rattle.ssf_model.specs.declared.event.Entry.{Entry}
 use Rattle.ssfnet_top.specs.declared.refusal.Refusal.TheVariants as refusal
 use Rattle.ssfnet_top.specs.Outcome.{IsRunDue, refused}
 use Rattle.ssfnet_top.proofs.Naming.{names_fit}
 use Rattle.ssfnet_top.proofs.RunOutcome.{whole_due, first_due}
-use Rattle.ssfnet_top.proofs.Endings.{sent_part, sent_all}
+use Rattle.ssfnet_top.proofs.Endings.{appends_nothing, sent_part, sent_all}
 use Rattle.ssfnet_top.proofs.seq.simulate.Goals as goal
 
 pub write_records-requires : goal.write_records-requires
 write_records-requires g c =
-    names_fit c.args.built.plan c.args.until c.args.budget _ c.run_single-entries.result.entries _ (omega arith) c.requires.plan
+    let behaviour = c.args.built.plan.behaviour in
+    names_fit (g.B.Behaviour.valid behaviour) (g.B.Behaviour.carried behaviour) (g.B.Behaviour.reaction behaviour) (g.met.B.Behaviour.sound behaviour) (g.met.B.Behaviour.modest behaviour)
+    c.args.built.plan c.args.until c.args.budget _ c.run_single-entries.result.entries _ (omega arith) c.requires.plan
     c.run_single-entries.ensures.most c.run_single-entries.ensures.prefix c.requires.named c.as_slice-entries.ensures
 
 pub write_trace-requires : goal.write_trace-requires
 write_trace-requires g c =
-    names_fit c.args.built.plan c.args.until c.args.budget _ c.run_single-entries.result.entries _ (omega arith) c.requires.plan
+    let behaviour = c.args.built.plan.behaviour in
+    names_fit (g.B.Behaviour.valid behaviour) (g.B.Behaviour.carried behaviour) (g.B.Behaviour.reaction behaviour) (g.met.B.Behaviour.sound behaviour) (g.met.B.Behaviour.modest behaviour)
+    c.args.built.plan c.args.until c.args.budget _ c.run_single-entries.result.entries _ (omega arith) c.requires.plan
     c.run_single-entries.ensures.most c.run_single-entries.ensures.prefix c.requires.named c.as_slice-entries.ensures
 
 pub returns-in-Ok-clause-due : goal.returns-in-Ok-clause-due
@@ -26,7 +29,7 @@ returns-in-Ok-clause-due g c =
     let text = entries_text names c.as_slice-entries.result.now in
     inl (
       text,
-      first_due ring_reaction c.args.built.plan names c.args.until c.args.budget c.run_single-entries.result.entries text over.0 c.run_single-entries.ensures.prefix over.1
+      first_due (g.B.Behaviour.reaction c.args.built.plan.behaviour) c.args.built.plan names c.args.until c.args.budget c.run_single-entries.result.entries text over.0 c.run_single-entries.ensures.prefix over.1
           (ap (λ (es : List Entry). entries_text names es) c.as_slice-entries.ensures),
       c.in-Ok.ensures.all,
     )
@@ -36,9 +39,9 @@ returns-in-OverBudget-clause-due g c =
     let over = c.run_single-entries.ensures.over c.in-OverBudget.is in
     let names = c.args.built.names in
     let text = entries_text names c.as_slice-entries.result.now in
-    sent_part (IsRunDue ring_reaction c.args.built.plan names c.args.until c.args.budget) (refused (refusal.Budget c.args.budget) text) c.in-Err.refusal
+    sent_part (IsRunDue (g.B.Behaviour.reaction c.args.built.plan.behaviour) c.args.built.plan names c.args.until c.args.budget) (refused (refusal.Budget c.args.budget) text) c.in-Err.refusal
     (g.K.Sink.faults c.args.out.now) (g.K.Sink.faults c.write_records.new.out) (g.K.Sink.held c.args.out.now) (g.K.Sink.held c.write_records.new.out)
-    (first_due ring_reaction c.args.built.plan names c.args.until c.args.budget c.run_single-entries.result.entries text over.0 c.run_single-entries.ensures.prefix over.1
+    (first_due (g.B.Behaviour.reaction c.args.built.plan.behaviour) c.args.built.plan names c.args.until c.args.budget c.run_single-entries.result.entries text over.0 c.run_single-entries.ensures.prefix over.1
     (ap (λ (es : List Entry). entries_text names es) c.as_slice-entries.ensures))
     c.in-Err.ensures.statuses c.in-Err.ensures.part
 
@@ -48,9 +51,12 @@ returns-clause-due g c =
     let slice = c.as_slice-entries.result.now in
     let count = c.args.built.plan.before + length slice in
     let text = trace_text names slice c.args.until count in
-    sent_all (IsRunDue ring_reaction c.args.built.plan names c.args.until c.args.budget) c.write_trace.result text
+    sent_all (IsRunDue (g.B.Behaviour.reaction c.args.built.plan.behaviour) c.args.built.plan names c.args.until c.args.budget) c.write_trace.result text
     (g.K.Sink.faults c.args.out.now) (g.K.Sink.faults c.write_trace.new.out) (g.K.Sink.held c.args.out.now) (g.K.Sink.held c.write_trace.new.out)
-    (whole_due ring_reaction c.args.built.plan names c.args.until c.args.budget c.run_single-entries.result.entries text count c.run_single-entries.ensures.most c.run_single-entries.ensures.prefix
+    (whole_due (g.B.Behaviour.reaction c.args.built.plan.behaviour) c.args.built.plan names c.args.until c.args.budget c.run_single-entries.result.entries text count c.run_single-entries.ensures.most c.run_single-entries.ensures.prefix
     (c.run_single-entries.ensures.finished c.in-Finished.is) (ap (λ (es : List Entry). c.args.built.plan.before + length es) c.as_slice-entries.ensures)
     (ap (λ (es : List Entry). trace_text names es c.args.until count) c.as_slice-entries.ensures))
     c.write_trace.ensures.all c.write_trace.ensures.part c.write_trace.ensures.statuses
+
+pub returns-in-Memory-clause-due : goal.returns-in-Memory-clause-due
+returns-in-Memory-clause-due g c = inr (inr (refl, appends_nothing (g.K.Sink.held c.args.out.now)))
