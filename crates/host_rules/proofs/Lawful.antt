@@ -28,7 +28,7 @@ use Rattle.host_rules.specs.declared.rows.HostPort.{HostPort}
 use Rattle.host_rules.specs.Hosts.{Sockets, Stack}
 use Rattle.host_rules.specs.Effects.{Effect, quiet, telling, and_then}
 use Rattle.host_rules.specs.Sending.{routes_at, own_addresses, second_of, is_down, answered, with_interface, offering, over_link, from_port, next_hop, forwarded, by_verdict, sending, address_of, source_by, source_to, packet_of, done, all_done}
-use Rattle.host_rules.specs.Sources.{IsOwnAddress}
+use Rattle.host_rules.specs.Sources.{IsOwnAddress, IsOwn}
 use Rattle.host_rules.specs.Limits.{AreRows, HasOuts, IsInterfaceOf, AreInterfaces, IsStack}
 use Rattle.host_rules.proofs.Listing.{if_case, each_append, each_at}
 
@@ -186,7 +186,7 @@ module _ (rows : HostRows) (C : PacketFields → Type 0) (outs : List ℕ) (rang
       verdict_lawful (routes_at rows s now) now packet (sent (own_addresses rows) (routes_at rows s now) packet) s carried early is
 
   -- all that a rule did
-  pub all_done_lawful : (makes : (packet : PacketFields) → IsPacket packet → IsOwnAddress rows packet.src → C packet) (now : ℕ) (sockets : Sockets) (acts : List Act) (s : Stack)
+  pub all_done_lawful : (makes : (packet : PacketFields) → IsPacket packet → IsOwn rows packet → C packet) (now : ℕ) (sockets : Sockets) (acts : List Act) (s : Stack)
       → IsOwnAddress rows sockets.own → EachSegment IsSegment (sent_of acts) → now ≤ LatestTime → IsStack rows s → IsLawful rows C outs (length (sent_of acts)) (all_done rows now sockets acts s)
   all_done_lawful makes now sockets [] s own are early is = lawful_quiet rows C outs 0 s is
   all_done_lawful makes now sockets (Entered state ∷ acts) s own are early is =
@@ -201,7 +201,7 @@ module _ (rows : HostRows) (C : PacketFields → Type 0) (outs : List ℕ) (rang
       let packet = packet_of sockets segment in
       lawful_more rows C outs (1 + length (sent_of acts)) (length (sent_of (Send segment ∷ acts))) (all_done rows now sockets (Send segment ∷ acts) s) (omega arith)
       (lawful_then rows C outs 1 (length (sent_of acts)) (done rows now sockets (Send segment) s) (all_done rows now sockets acts)
-      (sending_lawful now packet s (makes packet (packet_is sockets segment are.0) own) early is)
+      (sending_lawful now packet s (makes packet (packet_is sockets segment are.0) (own, refl)) early is)
       (λ t k. all_done_lawful makes now sockets acts t own are.1 early k))
 
 -- The own address of what a host sends is one of its own, or 0.

@@ -6,5 +6,6 @@ pub mod Turns
 pub mod Sound
 pub mod Modest
 pub mod Starting
+pub mod Ends
 pub mod Finding
 pub mod Worked

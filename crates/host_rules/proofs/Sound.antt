@@ -21,7 +21,7 @@ use Rattle.host_rules.specs.Hosts.{Stack, HostFields}
 use Rattle.host_rules.specs.Effects.{quiet}
 use Rattle.host_rules.specs.Entries.{least}
 use Rattle.host_rules.specs.Reacting.{Role, Receiver, Clock, Client, clients_from, roles, is_timed_role, Reply, reply, heard, receiver_reply, wait_until, clock_wait, ticked, clock_effect, clock_reply, left_of, start_wait, tcp_turn, udp_sent, client_turn, client_reply, role_reply, reply_of, outcome, host_reaction}
-use Rattle.host_rules.specs.Sources.{IsOwnAddress, IsPassedOn, IsFrom, Brings}
+use Rattle.host_rules.specs.Sources.{IsOwn, IsPassedOn, IsFrom, Brings}
 use Rattle.host_rules.specs.Limits.{AreRows, IsTimedClient, IsWaitOf, AreWaits, HasOuts, IsStack, IsHost}
 use Rattle.host_rules.proofs.Listing.{if_case, each_append, each_more, each_map, each_at}
 use Rattle.host_rules.proofs.Lawful.{IsLawful, lawful_quiet, lawful_more, passed_is}
@@ -101,7 +101,7 @@ passed_on_came : (came wake : Wake PacketFields) (packet : PacketFields) → cam
 passed_on_came came wake packet same is = subst (λ (w : Wake PacketFields). IsPassedOn w packet) (sym same) is
 
 module _ (rows : HostRows) (came : Wake PacketFields) (ins outs : List ℕ) (ranges : AreRows rows) (ways : Each (HasOuts outs) rows.ports) (poke : Among rows.poke_out outs) where
-  own_is : (packet : PacketFields) → IsPacket packet → IsOwnAddress rows packet.src → IsWritten rows came packet
+  own_is : (packet : PacketFields) → IsPacket packet → IsOwn rows packet → IsWritten rows came packet
   own_is packet is own = (is, inl own)
 
   quiet_is : (s : Stack) → IsStack rows s → IsLawful rows (IsWritten rows came) outs MostWrites (quiet s)

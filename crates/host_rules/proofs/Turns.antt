@@ -31,7 +31,7 @@ use Rattle.host_rules.specs.Sending.{routes_at, own_addresses, by_verdict, all_d
 use Rattle.host_rules.specs.Entries.{same_sockets, found, numbered, is_accepted, is_due, due, least, is_closed, settled, ends}
 use Rattle.host_rules.specs.Hearing.{MostAccepted, server_address, transfer_sockets, with_transfer, with_entry, opening_to, next_transfer, next_of, next_after, turned, listens_on, udp_arrived, may_accept, sockets_of, opened_by, tcp_arrived_at, tcp_arrived, at_home, at_verdict, arrived, timed_out_at, timed_out, all_timed_out}
 use Rattle.host_rules.specs.Reacting.{blank_packet, is_same_tick, poke_unless, with_poke, heard, ticked, left_of, with_left, refilled, datagram, present_server, datagram_to, datagram_sent, udp_turn, tcp_turn, udp_sent}
-use Rattle.host_rules.specs.Sources.{IsOwnAddress}
+use Rattle.host_rules.specs.Sources.{IsOwn}
 use Rattle.host_rules.specs.Limits.{AreRows, IsTimedClient, HasOuts, IsKindOf, IsEntry, IsStack}
 use Rattle.host_rules.proofs.Listing.{if_case, each_at, each_among, found_among, length_filter}
 use Rattle.host_rules.proofs.Tables.{settled_stack, accepted_stack}
@@ -123,7 +123,7 @@ unfolding due
 due_few now xs = omega (arith, length-map (filter (is_due now) xs) (λ (x : EntryFields). x.number), length_filter (is_due now) xs)
 
 module _ (rows : HostRows) (C : PacketFields → Type 0) (outs : List ℕ) (ranges : AreRows rows) (ways : Each (HasOuts outs) rows.ports)
-    (makes : (packet : PacketFields) → IsPacket packet → IsOwnAddress rows packet.src → C packet) where
+    (makes : (packet : PacketFields) → IsPacket packet → IsOwn rows packet → C packet) where
   -- Transfers.
   opening_to_lawful : (now client : ℕ) (row : Option ClientRow) (server : Option ServerRow) (s : Stack) → slice_get rows.clients client ≡ row → next_server s.apps client ≡ server
       → client < length rows.clients → now ≤ LatestTime → IsStack rows s → IsLawful rows C outs 1 (opening_to rows now client row server s)
@@ -257,7 +257,7 @@ module _ (rows : HostRows) (C : PacketFields → Type 0) (outs : List ℕ) (rang
   -- Pokes.
   poke_lawful : (same : Bool) (s : Stack) → Among rows.poke_out outs → IsStack rows s → IsLawful rows C outs 1 (poke_unless same rows s)
   poke_lawful true s among is = lawful_quiet rows C outs 1 s is
-  poke_lawful false s among is = record { stack = is; writes = ((among, omega arith, makes blank_packet blank_is refl), tt); few = omega arith }
+  poke_lawful false s among is = record { stack = is; writes = ((among, omega arith, makes blank_packet blank_is (refl, refl)), tt); few = omega arith }
 
   with_poke_lawful : (most : ℕ) (before : Stack) (e : Effect) → Among rows.poke_out outs → IsLawful rows C outs most e → IsLawful rows C outs (most + 1) (with_poke rows before e)
   unfolding with_poke
@@ -283,7 +283,7 @@ module _ (rows : HostRows) (C : PacketFields → Type 0) (outs : List ℕ) (rang
   datagram_to_lawful now client bytes None s early is = lawful_quiet rows C outs 1 s is
   datagram_to_lawful now client bytes (Some server) s early is =
       sending_lawful rows C outs ranges ways now (datagram rows now bytes server s) (with_left client (left_of client s - bytes) s)
-      (makes (datagram rows now bytes server s) (datagram_is rows now bytes server s) (source_own rows s now (server_address rows server))) early
+      (makes (datagram rows now bytes server s) (datagram_is rows now bytes server s) (source_own rows s now (server_address rows server), refl)) early
       (left_stack rows s client (left_of client s - bytes) is)
 
   datagram_sent_lawful : (now client : ℕ) (row : ClientRow) (s : Stack) → now ≤ LatestTime → IsStack rows s → IsLawful rows C outs 1 (datagram_sent rows now client row s)

@@ -19,9 +19,13 @@ IsPassedOn Begin packet = ⊥
 IsPassedOn Timer packet = ⊥
 IsPassedOn (Message channel came) packet = packet ≡ passed_on came
 
+-- a packet of the host's own, as it leaves the host that makes it
+abbrev pub IsOwn : HostRows → PacketFields → Type 0
+IsOwn rows packet = IsOwnAddress rows packet.src × (packet.ttl ≡ 64)
+
 -- a packet is the host's own, or passed on
 abbrev pub IsFrom : HostRows → Wake PacketFields → PacketFields → Type 0
-IsFrom rows wake packet = IsOwnAddress rows packet.src ⊎ IsPassedOn wake packet
+IsFrom rows wake packet = IsOwn rows packet ⊎ IsPassedOn wake packet
 
 -- a fact about the packet of a write
 abbrev pub Brings : (PacketFields → Type 0) → Written PacketFields → Type 0

@@ -1,5 +1,5 @@
 //! Laws of hosts: the contracts of functions with empty bodies.
-ghost use Rattle.std.specs.Prelude.{ℕ, ◌≡◌, ◌≤◌, Bool, List, length, map, replicate};
+ghost use Rattle.std.specs.Prelude.{ℕ, ◌≡◌, ◌≤◌, Bool, true, List, length, map, replicate};
 ghost use Rattle.std.specs.Option.{option_or};
 ghost use Rattle.ssf_model.specs.declared.wait.Wait.{Wait};
 ghost use Rattle.ssf_model.specs.declared.wait.Wait.TheVariants.{Forever};
@@ -9,7 +9,7 @@ ghost use Rattle.ssf_model.specs.Deliver.{IsModest};
 ghost use Rattle.ip_layer.specs.Packets.{PacketFields, IsPacket};
 ghost use Rattle.host_rules.specs.declared.rows.HostRows.{HostRows};
 ghost use Rattle.host_rules.specs.Hosts.{Sockets, EntryFields, Stack, HostFields, first_host};
-ghost use Rattle.host_rules.specs.Entries.{found};
+ghost use Rattle.host_rules.specs.Entries.{found, same_sockets};
 ghost use Rattle.host_rules.specs.Sources.{IsFrom, Brings};
 ghost use Rattle.host_rules.specs.Between.{accepted_between, opened_between};
 ghost use Rattle.host_rules.specs.Reacting.{roles, is_timed_role, host_reaction};
@@ -56,4 +56,9 @@ pub fn sessions_are_few()
 pub fn hosts_send_by_their_own_addresses()
     ensures { (s : HostFields) (ins outs : List ℕ) (timed : List Bool) (waits : List Wait) (i now : ℕ) (wake : Wake PacketFields)
         → IsHost s ins outs timed waits → Carries IsPacket wake → now ≤ LatestTime → Each (Brings (IsFrom s.rows wake)) (host_reaction s i now wake).writes }
+{}
+
+/// Two sessions have the same ends only where both addresses and both ports agree.
+pub fn sessions_are_told_apart_by_their_ends()
+    ensures { (a b : Sockets) → same_sockets a b ≡ true → a ≡ b }
 {}

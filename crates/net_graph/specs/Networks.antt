@@ -112,6 +112,7 @@ pub record IsInterface (network : Network) (number : ℕ) (interface : Interface
 -- the attachments of a link, 1 to 131,072, are interfaces that say so
 pub record IsLink (network : Network) (number : ℕ) (link : LinkRow) : Type 0 where
   pub delay : link.delay ≤ 10 ^ 18
+  pub priority : link.priority < 2 ^ 8
   pub some : 1 ≤ length link.attached
   pub few : length link.attached ≤ 131072
   pub there : All (λ i. i < length network.interfaces) link.attached

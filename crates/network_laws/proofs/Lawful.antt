@@ -217,6 +217,7 @@ link_lawful f seen all hosts servers known l lt =
     let few : length (attached_numbers l all) ≤ length seen.interfaces = few_attached (length seen.interfaces) l all (attached_numbers l all) there (λ k less. known.attaches.back l k lt less) in
     record {
       delay = is.delay;
+      priority = is.priority;
       some = known.attaches.some l lt;
       few = omega arith;
       there = All-weaker (λ (i : ℕ). i < length seen.interfaces) (λ (i : ℕ). i < length (linked all 0 seen.interfaces)) (λ i less. omega arith) (attached_numbers l all) there;

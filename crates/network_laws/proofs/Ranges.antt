@@ -146,6 +146,7 @@ IsDown down = (down.from < down.to) × (down.to ≤ 10 ^ 18)
 
 pub record IsLinkKeys (keys : LinkKeys) : Type 0 where
   pub delay : IsTime keys.delay
+  pub priority : keys.priority < 2 ^ 8
   pub some : 1 ≤ length keys.attached
   pub downs : All IsDown keys.downs
 
@@ -179,9 +180,9 @@ pub link_keys_if : (frequency before : ℕ) (xs : List Attribute) → IfOk (link
 link_keys_if frequency before xs =
     then_if (λ nhis. 1 ≤ length nhis) (λ keys. IsLinkKeys keys × (before ≤ 64 → before + length keys.downs ≤ 64)) (some_attached (attached_each (values_of (codes "attach") xs))) _ (attached_if _) (λ attached h.
     then_if IsTime (λ keys. IsLinkKeys keys × (before ≤ 64 → before + length keys.downs ≤ 64)) (seconds_at (codes "delay") frequency 0 xs) _ (seconds_if (codes "delay") frequency 0 xs (omega arith)) (λ delay i.
-    then_any (λ keys. IsLinkKeys keys × (before ≤ 64 → before + length keys.downs ≤ 64)) (number_at (codes "priority") 0 256 (Ok 0) xs) _ (λ priority.
+    then_if (InRange 0 256) (λ keys. IsLinkKeys keys × (before ≤ 64 → before + length keys.downs ≤ 64)) (number_at (codes "priority") 0 256 (Ok 0) xs) _ (number_if (codes "priority") 0 256 (Ok 0) xs (omega arith, omega arith)) (λ priority first.
     then_if (AreDowns before) (λ keys. IsLinkKeys keys × (before ≤ 64 → before + length keys.downs ≤ 64)) (downs_from frequency before (lists_of (codes "down") xs)) _ (downs_if frequency before (lists_of (codes "down") xs)) (λ downs j.
-    (record { delay = i; some = h; downs = j.0 }, j.1)))))
+    (record { delay = i; priority = omega arith; some = h; downs = j.0 }, j.1)))))
 
 -- sessions
 

@@ -90,7 +90,7 @@ passed_cases rows came packet (inl o) = inl o
 passed_cases rows came packet (inr t) = inr t
 
 from_cases : (rows : HostRows) (came : Sockets → List SegmentFields) (wake : Wake PacketFields) (packet : PacketFields) → Carries (Carried rows came) wake → IsFrom rows wake packet → IsTracedOrOwn rows came packet
-from_cases rows came wake packet bring (inl o) = own_cases rows came packet o
+from_cases rows came wake packet bring (inl o) = own_cases rows came packet o.0
 from_cases rows came BeginWake packet bring (inr passed) = absurd passed
 from_cases rows came TimerWake packet bring (inr passed) = absurd passed
 from_cases rows came (MessageWake channel q) packet bring (inr passed) =

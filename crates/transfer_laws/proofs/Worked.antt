@@ -1,5 +1,6 @@
 -- A worked run: a transfer of 1,500 bytes over a router, what was sent to the server, and what it delivered.
 use Rattle.std.proofs.Common.{◌≡◌, ℕ, zero, suc, List, [], ◌∷◌, ◌++◌, map, refl, sym, ap, ◌∙◌, append_assoc, append-nil}
+use Rattle.std.specs.List.{flat_map}
 use Rattle.event_order.specs.Order.{comes_before}
 use Rattle.event_order.specs.Machine.{Machine, World, due, stepped, after, event, all_kept}
 use Rattle.sim_base.specs.SegmentFields.{SegmentFields}
@@ -15,7 +16,7 @@ use Rattle.tcp_clock.specs.Retransmission.{first_timeout, sampled}
 use Rattle.tcp_clock.specs.Congestion.{first_window, grown}
 use Rattle.tcp_rules.specs.Clients.{opened, at_opening, at_syn_ack, sent as sent_out, data_stop, data_count, fin_sent, edge, measured, timing_at_send, deadline_at, at_later, at_plain, at_acknowledgment, at_ack, at_new_ack, at_last_fin}
 use Rattle.tcp_rules.specs.Servers.{listened, at_start, at_data, kept_with, fin_with, added, at_kept, hole, at_end, at_last}
-use Rattle.tcp_rules.specs.Sessions.{delivered_of, connecting, accepting}
+use Rattle.tcp_rules.specs.Sessions.{End, Client, Server, connecting, accepting}
 use Rattle.traffic.specs.Progress.{at_first, next_server, after_next}
 use Rattle.traffic.specs.Starts.{drawn_start}
 use Rattle.host_rules.specs.declared.sockets.Sockets.{Sockets}
@@ -91,11 +92,15 @@ what_is_sent = refl
 segments_go_out : map shown (segments_sent plan last all_kept ends 60) ≡ (10000, 0) ∷ (10001, 0) ∷ (10001, 1000) ∷ (11001, 500) ∷ (11501, 0) ∷ (11502, 0) ∷ []
 segments_go_out = ap (λ (gs : List SegmentFields). map shown gs) (sent_by_events 60) ∙ what_is_sent
 
--- how many bytes each session of the server's host has delivered after so many events
-abbrev delivered_at : List (Entity (Unit {0}) HostFields PacketFields) → List ℕ
-delivered_at [] = []
-delivered_at (host ∷ hosts) = map (λ (x : EntryFields). delivered_of x.session) host.state.stack.sessions ++ delivered_at hosts
+-- the ends of each server's session, its peer's first position, and how many bytes it has delivered
+abbrev served : Sockets → End → List (Sockets × (ℕ × ℕ))
+served between (Client c) = []
+served between (Server s) = (between, (s.irs, s.delivered)) ∷ []
 
-what_is_delivered : delivered_at (after rules last all_kept (opening plan) 30).state.entities ≡ 0 ∷ 1500 ∷ []
+abbrev delivered_at : List (Entity (Unit {0}) HostFields PacketFields) → List (Sockets × (ℕ × ℕ))
+delivered_at [] = []
+delivered_at (host ∷ hosts) = flat_map (λ (x : EntryFields). served x.sockets x.session) host.state.stack.sessions ++ delivered_at hosts
+
+what_is_delivered : delivered_at (after rules last all_kept (opening plan) 30).state.entities ≡ (ends, (10000, 1500)) ∷ []
 unfolding machine_of comes_before planned starts_of drawn_start at_first host_reaction routes_at own_addresses is_down forwarded sending source_to best_route sent received offered after_offer next_server after_next arrived with_poke heard clock_wait least transfer_sockets next_transfer tcp_turn connecting opened first_timeout first_window tcp_arrived may_accept found accepting listened turned settled next_after at_opening at_syn_ack sent_out data_stop data_count fin_sent edge measured timing_at_send deadline_at sampled at_later at_plain at_acknowledgment at_ack at_new_ack grown at_last_fin at_start at_data kept_with fin_with added at_kept hole at_end at_last ticked timed_out due_sessions numbered
 what_is_delivered = refl

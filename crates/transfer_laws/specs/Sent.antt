@@ -1,5 +1,5 @@
 -- What the hosts of a run send to a TCP session.
-use Rattle.std.specs.Prelude.{ℕ, zero, suc, ◌≡◌, Bool, cond, List, [], ◌++◌, Option, Some, None, slice_get, option_to_list}
+use Rattle.std.specs.Prelude.{ℕ, zero, suc, ◌≡◌, Bool, ◌&&◌, cond, nat_eq, List, [], ◌++◌, Option, Some, None, slice_get, option_to_list}
 use Rattle.std.specs.List.{flat_map}
 use Rattle.event_order.specs.declared.key.Key.{Key}
 use Rattle.event_order.specs.Pending.{Among}
@@ -21,14 +21,15 @@ use Rattle.tcp_rules.specs.Sessions.{Server}
 use Rattle.host_rules.specs.declared.sockets.Sockets.{Sockets}
 use Rattle.host_rules.specs.Hosts.{EntryFields, HostFields}
 use Rattle.host_rules.specs.Sending.{own_addresses}
-use Rattle.host_rules.specs.Entries.{same_sockets}
-use Rattle.host_rules.specs.Hearing.{sockets_of}
 use Rattle.host_rules.specs.Reacting.{host_reaction}
 
--- the segment that a write brings to the session between these ends: that of a packet from the peer's address and port to
--- its own
+-- a packet goes from the peer's address and port to the session's own
+abbrev pub goes_to : Sockets → PacketFields → Bool
+goes_to ends packet = nat_eq ends.own packet.dst && (nat_eq ends.own_port packet.dst_port && (nat_eq ends.peer packet.src && nat_eq ends.peer_port packet.src_port))
+
+-- the segment that a write brings to the session between these ends
 abbrev pub segment_for : Sockets → Written PacketFields → List SegmentFields
-segment_for ends (Channel channel delay packet) = cond (same_sockets ends (sockets_of packet)) (option_to_list packet.segment) []
+segment_for ends (Channel channel delay packet) = cond (goes_to ends packet) (option_to_list packet.segment) []
 segment_for ends (TimerWrite process delay ticket) = []
 
 abbrev pub IsNoMessage : Kind PacketFields → Type 0
