@@ -1,2 +1,3 @@
 pub mod Cores
+pub mod Driving
 pub mod Steps
