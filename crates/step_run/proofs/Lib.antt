@@ -1,0 +1,5 @@
+pub mod Tallied
+pub mod Going
+pub mod Counting
+pub mod Beginning
+pub mod Ending
