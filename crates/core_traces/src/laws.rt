@@ -9,9 +9,11 @@ ghost use Rattle.ssf_model.specs.declared.event.Names.{Names as NamesValue};
 ghost use Rattle.ssf_model.specs.declared.plan.Plan.{Plan as PlanValue};
 ghost use Rattle.ssf_model.specs.Reaction.{LatestTime};
 ghost use Rattle.ssf_model.specs.Run.{Fits};
-ghost use Rattle.ssf_model.specs.Scene.{Scene};
+ghost use Rattle.ssf_model.specs.Runs.{OfEachFittingRun};
+ghost use Rattle.ssf_model.specs.Scene.{Scene, scene_of};
 ghost use Rattle.ssf_model.specs.Truth.{AreFew};
 ghost use Rattle.run_health.specs.Healthy.{MostEvents};
+ghost use Rattle.run_health.specs.Joined.{IsAligned, KeepsRounds};
 ghost use Rattle.sync_rules.specs.Shared.{IsShared};
 ghost use Rattle.alignment.specs.declared.labels.Mode.{Mode as ModeValue};
 ghost use Rattle.alignment.specs.Alignment.{IsAlignment, line_of};
@@ -112,4 +114,16 @@ pub fn runs_decide_their_ends<X, E>()
     ensures windows { (s : Scene X E) → IsShared s → (count last many end : ℕ) → AreWindows s count last → AreWindows s many end → (count ≡ many) × (last ≡ end) }
     ensures budget { (s : Scene X E) (budget i j f h : ℕ) → EndsBudget s budget i f → EndsBudget s budget j h → f ≡ h }
     ensures few { (s : Scene X E) (budget i f : ℕ) → AreFew s budget → EndsBudget s budget i f → ⊥ }
+{}
+
+/// Entities are numbered by timelines, and the two ends of each mapping without delay are on one.
+/// Where no timeline has more events than the budget, all entries of the run (`entries`) and its windows (`windows`) are
+/// the same under any two cuts that drop no round up to the budget.
+pub fn cuts_change_no_run_in_budget<B: Behaviour>()
+    ensures entries { (b : B) → OfEachFittingRun {B = B} (B.valid b) (B.carried b) (B.reaction b) (λ plan line s. IsAligned plan line → (budget : ℕ) (other : KeyValue → Bool)
+        → AreFew s budget → KeepsRounds budget s.kept → KeepsRounds budget other
+        → (entries : List EntryValue) → AreAllEntries (B.reaction b) plan s.until s.kept entries → AreAllEntries (B.reaction b) plan s.until other entries) }
+    ensures windows { (b : B) → OfEachFittingRun {B = B} (B.valid b) (B.carried b) (B.reaction b) (λ plan line s. IsAligned plan line → (budget : ℕ) (other : KeyValue → Bool)
+        → AreFew s budget → KeepsRounds budget s.kept → KeepsRounds budget other
+        → (count last : ℕ) → AreWindows s count last → AreWindows (scene_of (B.reaction b) plan s.until other line s.net) count last) }
 {}
