@@ -1,5 +1,5 @@
 -- What histories have before a time, in key order, are the next entries of the run.
-use Rattle.std.proofs.Common.{◌≡◌, ℕ, ◌<◌, ◌≤◌, Bool, true, nat_lt, List, [], ◌++◌, refl, sym, ap, ◌∙◌, subst, inl, inr, arith, eq-eqb, eqb-true, Some, option_map, slice_get}
+use Rattle.std.proofs.Common.{◌≡◌, ◌⊎◌, ℕ, ◌<◌, ◌≤◌, Bool, true, nat_lt, List, [], ◌++◌, refl, sym, ap, ◌∙◌, subst, inl, inr, arith, eq-eqb, eqb-true, Some, option_map, slice_get}
 use Rattle.std.proofs.lemmas.Bool.{ltb-true, lt-ltb}
 use Rattle.event_order.specs.declared.key.Key.{Key}
 use Rattle.event_order.specs.Pending.{Among, IsRising, IsApart}
@@ -33,6 +33,16 @@ use Rattle.core_traces.specs.Kept.{AreKept, IsCoreFrom, history_in, histories_of
 use Rattle.core_traces.proofs.Lists.{key_in, map_there, rising_rest, rising_both, IsIn, in_events, events_in, events_apart}
 use Rattle.core_traces.proofs.Runs.{keyed, entry_time, below_cut, moment, moment_below}
 use Rattle.core_traces.proofs.Keeps.{on_own}
+
+-- an entry of some was given up or is kept, and what is kept is one of them
+given_or_kept : (g : ℕ) (entries hist : List Entry) (k : AreKept g entries hist) (x : Entry) → Among x entries → Among x k.given_up ⊎ Among x hist
+given_or_kept g entries hist k x a = append_among x k.given_up hist (subst (λ xs. Among x xs) (sym k.whole) a)
+
+kept_among : (g : ℕ) (entries hist : List Entry) → AreKept g entries hist → (x : Entry) → Among x hist → Among x entries
+kept_among g entries hist k x a = subst (λ xs. Among x xs) k.whole (among_append_right x k.given_up hist a)
+
+kept_rises : (g : ℕ) (entries hist : List Entry) → AreKept g entries hist → IsRising key_in entries → IsRising key_in hist
+kept_rises g entries hist k rises = rising_rest k.given_up hist (subst (λ xs. IsRising key_in xs) (sym k.whole) rises)
 
 module _ {B S P : Type 0} (r : Reaction S P) (valid : Validity S) (carried : P → Type 0) (law : KeepsValid valid carried r) (modest : IsModest valid carried r)
     (plan : Plan B S P) (until : ℕ) (in_time : until ≤ LatestTime) (fits : Fits valid carried plan) (kept : Key → Bool) (line : ℕ → ℕ) (net : Net)
@@ -72,10 +82,10 @@ module _ {B S P : Type 0} (r : Reaction S P) (valid : Validity S) (carried : P �
       }
 
   pub history_rises : (i : ℕ) (h : List Entry) → slice_get hs i ≡ Some h → IsRising key_in h
-  history_rises i h got = (let k = (history_of i h got).holds in rising_rest k.given_up h (subst (λ xs. IsRising key_in xs) (sym k.whole) (rises_on i)))
+  history_rises i h got = kept_rises g (line_entries s i (at i)) h (history_of i h got).holds (rises_on i)
 
   pub on_line : (i : ℕ) (h : List Entry) (x : Entry) → slice_get hs i ≡ Some h → Among x h → Among x (line_entries s i (at i))
-  on_line i h x got a = (let k = (history_of i h got).holds in subst (λ xs. Among x xs) k.whole (among_append_right x k.given_up h a))
+  on_line i h x got a = kept_among g (line_entries s i (at i)) h (history_of i h got).holds x a
 
   history_at : (i : ℕ) (t : TimelineOf B S P) → slice_get core.timelines i ≡ Some t → slice_get hs i ≡ Some t.history
   history_at i t own = get_map history_in core.timelines i ∙ ap (option_map history_in) own
@@ -166,7 +176,7 @@ module _ {B S P : Type 0} (r : Reaction S P) (valid : Validity S) (carried : P �
         let known : i < s.net.timelines = subst (λ n. n < s.net.timelines) (eqb-true (s.line t.event) i t.passes) (sh.placed t.number t.event t.is) in
         let found = timeline_there plan line s core at q.before q.sound i known in
         let k : AreKept g (line_entries s i (at i)) found.0.history = q.keeps i found.0 found.1 in
-        elim (append_among x k.given_up found.0.history (subst (λ xs. Among x xs) (sym k.whole) a)) [
+        elim (given_or_kept g (line_entries s i (at i)) found.0.history k x a) [
           | inl given ↦ among_append_left x es (merged hs f) (given_first i x a (k.before x given))
           | inr here ↦ among_append_right x es (merged hs f) (to_merged f i found.0.history x (history_at i found.0 found.1) here low)
         ]

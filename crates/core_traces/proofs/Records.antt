@@ -1,14 +1,15 @@
 -- The entries of a run before a time, and all of them.
-use Rattle.std.proofs.Common.{◌≡◌, ℕ, zero, suc, ◌<◌, Bool, true, false, List, [], ◌∷◌, ◌++◌, length, refl, sym, ap, ◌∙◌, inl, inr, arith, Option, Some, None, option_map, is_some, length-append}
+use Rattle.std.proofs.Common.{◌≡◌, subst, ℕ, zero, suc, ◌<◌, Bool, true, false, List, [], ◌∷◌, ◌++◌, length, refl, sym, ap, ◌∙◌, inl, inr, arith, Option, Some, None, option_map, is_some, length-append}
 use Rattle.event_order.specs.declared.key.Key.{Key}
 use Rattle.event_order.specs.Machine.{option_list}
-use Rattle.event_order.proofs.Steps.{lt_or_ge, lt_or_same, difference}
+use Rattle.event_order.proofs.Steps.{lt_or_ge, lt_or_same, difference, before_end}
 use Rattle.ssf_model.specs.declared.event.Event.{Event}
 use Rattle.ssf_model.specs.declared.event.Entry.{Entry}
 use Rattle.ssf_model.specs.declared.plan.Plan.{Plan}
 use Rattle.ssf_model.specs.Reaction.{Reaction}
-use Rattle.ssf_model.specs.Run.{opening, entry_at, entries_from, run_event, run_entries, world_after}
+use Rattle.ssf_model.specs.Run.{machine_of, opening, entry_at, entries_from, run_event, run_entries, world_after}
 use Rattle.run_laws.proofs.Continuing.{entries_go_on}
+use Rattle.sync_rules.proofs.Runs.{some_or_none}
 use Rattle.core_traces.specs.Records.{AreEntriesBelow, AreAllEntries}
 
 some_there : {T : Type 0} (o : Option T) → is_some o ≡ true → (x : T) × (o ≡ Some x)
@@ -89,4 +90,30 @@ module _ {B S P : Type 0} (r : Reaction S P) (plan : Plan B S P) (until : ℕ) (
     | inr more ↦ (let d = difference p.count q.count more in
         let rest : List Entry = entries_from r plan.mappings until kept (world_after r plan until kept p.count) d.0 in
         (rest, ap (λ xs. xs ++ rest) p.are ∙ (sym (entries_go_on r plan.mappings until kept (opening plan) p.count d.0) ∙ (ap entries (sym d.1) ∙ sym q.are))))
+  ]
+
+  -- ---- a run that ends
+
+  event_before : (n k : ℕ) (e : Event P) → k < n → event n ≡ Some e → is_some (event k) ≡ true
+  event_before n k e l at = elim (some_or_none (event k)) [
+    | inl q ↦ is_there (event k) q.0 q.1
+    | inr none ↦ absurd (let early = before_end (machine_of {B = B} r plan.mappings) until kept (opening plan) k n e none at in omega arith)
+  ]
+
+  pub all_there : (n : ℕ) → event n ≡ None → (es : List Entry) × AreAllEntries r plan until kept es
+  all_there zero none = ([], record { count = 0; are = refl; each = λ k l. absurd (omega arith); no_more = none })
+  all_there (suc n) none = elim (some_or_none (event n)) [
+    | inr over ↦ all_there n over
+    | inl q ↦ (
+      entries (suc n),
+      record {
+        count = suc n;
+        are = refl;
+        each = λ k l. elim (lt_or_same k n (omega (arith, l))) [
+          | inl less ↦ event_before n k q.0 less q.1
+          | inr same ↦ subst (λ j. is_some (event j) ≡ true) (sym same) (is_there (event n) q.0 q.1)
+        ];
+        no_more = none;
+      },
+    )
   ]

@@ -89,12 +89,15 @@ pub fn budgets_end_in_the_run<B: Behaviour>()
         (i : ℕ) → BudgetEndsIn core i → EndsBudget s budget i (safe_bound_in core)) }
 {}
 
-/// The run alone decides its entries before a time (`below`) and all its entries (`all`).
+/// The run alone decides its entries before a time (`below`) and all its entries (`all`), and under a cut
+/// at a round it has them: it ends (`there`).
 pub fn runs_decide_their_records<B: Behaviour>()
     ensures below { (b : B) (plan : PlanValue B B.State B.Payload) (until : ℕ) (kept : KeyValue → Bool) (f : ℕ) (entries others : List EntryValue)
         → AreEntriesBelow (B.reaction b) plan until kept f entries → AreEntriesBelow (B.reaction b) plan until kept f others → entries ≡ others }
     ensures all { (b : B) (plan : PlanValue B B.State B.Payload) (until : ℕ) (kept : KeyValue → Bool) (entries others : List EntryValue)
         → AreAllEntries (B.reaction b) plan until kept entries → AreAllEntries (B.reaction b) plan until kept others → entries ≡ others }
+    ensures there { (b : B) (plan : PlanValue B B.State B.Payload) (until round : ℕ) → Fits (B.valid b) (B.carried b) plan
+        → (entries : List EntryValue) × AreAllEntries (B.reaction b) plan until (within round) entries }
 {}
 
 /// The entries of a run before a time are the first of all its entries (`first`). They are as many as
