@@ -57,9 +57,11 @@ pub fn entries_are_given_up<B: Behaviour>()
         (below : ℕ) → g ≤ below → below ≤ safe_bound_in core → IsCoreFrom plan line s budget (without_below below core) below) }
 {}
 
-/// Histories can be merged (`can`), and behind the entries of the run before g those that they have
-/// before a time f, up to the safe bound, are those of the run before f (`next`).
+/// There is a history for each timeline (`each`), and histories can be merged (`can`). Behind the entries
+/// of the run before g those that they have before a time f, up to the safe bound, make the entries of the run
+/// before f (`next`).
 pub fn histories_are_the_next_records<B: Behaviour>()
+    ensures each { (b : B) → OfEachCoreFrom {B = B} (B.valid b) (B.carried b) (B.reaction b) (λ plan line s budget core g. length (histories_of core) ≡ s.net.timelines) }
     ensures can { (b : B) (plan : PlanValue B B.State B.Payload) (nets : List ℕ) (mode : ModeValue) (lines : List ℕ) (threshold until budget g : ℕ) (kept : KeyValue → Bool)
         (core : CoreView B B.State B.Payload) (names : NamesValue)
         → Fits (B.valid b) (B.carried b) plan → IsAlignment plan nets mode lines → until ≤ LatestTime → budget ≤ MostEvents

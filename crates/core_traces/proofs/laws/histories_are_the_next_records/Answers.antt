@@ -1,6 +1,12 @@
+use Rattle.std.proofs.Common.{◌∙◌}
+use Rattle.core_rules.proofs.Lists.{map_length}
+use Rattle.core_traces.specs.Kept.{history_in}
 use Rattle.core_traces.proofs.Merging.{next_records}
 use Rattle.core_traces.proofs.Room.{can_merge}
 use Rattle.core_traces.proofs.laws.histories_are_the_next_records.Goals as goal
+
+pub returns-clause-each : goal.returns-clause-each
+returns-clause-each g c = λ b plan until kept line net fits in_time budget core from q. map_length history_in core.timelines ∙ q.sound.timelines
 
 pub returns-clause-can : goal.returns-clause-can
 returns-clause-can g c = λ b plan nets mode lines threshold until budget from kept core names fits aligned in_time most q size.
