@@ -1,7 +1,7 @@
 //! Laws of what timelines keep of the records of a run, over every plan that fits: `core` are the parts
 //! of the run, which keep all entries from the time `g` on, and `after` what steps leave of them.
 
-ghost use Rattle.std.specs.Prelude.{◌≡◌, ℕ, ◌<◌, ◌≤◌, ◌++◌, Bool, true, List, [], length};
+ghost use Rattle.std.specs.Prelude.{◌≡◌, ℕ, ◌≤◌, ◌++◌, Bool, true, List, [], length};
 ghost use Rattle.event_order.specs.declared.key.Key.{Key as KeyValue};
 ghost use Rattle.event_order.specs.Machine.{within};
 ghost use Rattle.ssf_model.specs.declared.event.Entry.{Entry as EntryValue};
