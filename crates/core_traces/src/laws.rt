@@ -1,7 +1,7 @@
 //! Laws of what timelines keep of the records of a run, over every plan that fits: `core` are the parts
 //! of the run, which keep all entries from the time `g` on, and `after` what steps leave of them.
 
-ghost use Rattle.std.specs.Prelude.{◌≡◌, ℕ, ◌<◌, ◌≤◌, ◌++◌, Bool, true, List, [], length};
+ghost use Rattle.std.specs.Prelude.{◌≡◌, ℕ, ◌≤◌, ◌++◌, Bool, true, List, [], length};
 ghost use Rattle.event_order.specs.declared.key.Key.{Key as KeyValue};
 ghost use Rattle.event_order.specs.Machine.{within};
 ghost use Rattle.ssf_model.specs.declared.event.Entry.{Entry as EntryValue};
@@ -9,9 +9,11 @@ ghost use Rattle.ssf_model.specs.declared.event.Names.{Names as NamesValue};
 ghost use Rattle.ssf_model.specs.declared.plan.Plan.{Plan as PlanValue};
 ghost use Rattle.ssf_model.specs.Reaction.{LatestTime};
 ghost use Rattle.ssf_model.specs.Run.{Fits};
-ghost use Rattle.ssf_model.specs.Scene.{Scene};
+ghost use Rattle.ssf_model.specs.Runs.{OfEachFittingRun};
+ghost use Rattle.ssf_model.specs.Scene.{Scene, scene_of};
 ghost use Rattle.ssf_model.specs.Truth.{AreFew};
 ghost use Rattle.run_health.specs.Healthy.{MostEvents};
+ghost use Rattle.run_health.specs.Joined.{IsAligned, KeepsRounds};
 ghost use Rattle.sync_rules.specs.Shared.{IsShared};
 ghost use Rattle.alignment.specs.declared.labels.Mode.{Mode as ModeValue};
 ghost use Rattle.alignment.specs.Alignment.{IsAlignment, line_of};
@@ -55,9 +57,11 @@ pub fn entries_are_given_up<B: Behaviour>()
         (below : ℕ) → g ≤ below → below ≤ safe_bound_in core → IsCoreFrom plan line s budget (without_below below core) below) }
 {}
 
-/// Histories can be merged (`can`), and behind the entries of the run before g those that they have
-/// before a time f, up to the safe bound, are those of the run before f (`next`).
+/// There is a history for each timeline (`each`), and histories can be merged (`can`). Behind the entries
+/// of the run before g those that they have before a time f, up to the safe bound, make the entries of the run
+/// before f (`next`).
 pub fn histories_are_the_next_records<B: Behaviour>()
+    ensures each { (b : B) → OfEachCoreFrom {B = B} (B.valid b) (B.carried b) (B.reaction b) (λ plan line s budget core g. length (histories_of core) ≡ s.net.timelines) }
     ensures can { (b : B) (plan : PlanValue B B.State B.Payload) (nets : List ℕ) (mode : ModeValue) (lines : List ℕ) (threshold until budget g : ℕ) (kept : KeyValue → Bool)
         (core : CoreView B B.State B.Payload) (names : NamesValue)
         → Fits (B.valid b) (B.carried b) plan → IsAlignment plan nets mode lines → until ≤ LatestTime → budget ≤ MostEvents
@@ -87,12 +91,15 @@ pub fn budgets_end_in_the_run<B: Behaviour>()
         (i : ℕ) → BudgetEndsIn core i → EndsBudget s budget i (safe_bound_in core)) }
 {}
 
-/// The run alone decides its entries before a time (`below`) and all its entries (`all`).
+/// The run alone decides its entries before a time (`below`) and all its entries (`all`), and under a cut
+/// at a round it has them: it ends (`there`).
 pub fn runs_decide_their_records<B: Behaviour>()
     ensures below { (b : B) (plan : PlanValue B B.State B.Payload) (until : ℕ) (kept : KeyValue → Bool) (f : ℕ) (entries others : List EntryValue)
         → AreEntriesBelow (B.reaction b) plan until kept f entries → AreEntriesBelow (B.reaction b) plan until kept f others → entries ≡ others }
     ensures all { (b : B) (plan : PlanValue B B.State B.Payload) (until : ℕ) (kept : KeyValue → Bool) (entries others : List EntryValue)
         → AreAllEntries (B.reaction b) plan until kept entries → AreAllEntries (B.reaction b) plan until kept others → entries ≡ others }
+    ensures there { (b : B) (plan : PlanValue B B.State B.Payload) (until round : ℕ) → Fits (B.valid b) (B.carried b) plan
+        → (entries : List EntryValue) × AreAllEntries (B.reaction b) plan until (within round) entries }
 {}
 
 /// The entries of a run before a time are the first of all its entries (`first`). They are as many as
@@ -112,4 +119,16 @@ pub fn runs_decide_their_ends<X, E>()
     ensures windows { (s : Scene X E) → IsShared s → (count last many end : ℕ) → AreWindows s count last → AreWindows s many end → (count ≡ many) × (last ≡ end) }
     ensures budget { (s : Scene X E) (budget i j f h : ℕ) → EndsBudget s budget i f → EndsBudget s budget j h → f ≡ h }
     ensures few { (s : Scene X E) (budget i f : ℕ) → AreFew s budget → EndsBudget s budget i f → ⊥ }
+{}
+
+/// Entities are numbered by timelines, and the two ends of each mapping without delay are on one.
+/// Where no timeline has more events than the budget, all entries of the run (`entries`) and its windows (`windows`) are
+/// the same under any two cuts that drop no round up to the budget.
+pub fn cuts_change_no_run_in_budget<B: Behaviour>()
+    ensures entries { (b : B) → OfEachFittingRun {B = B} (B.valid b) (B.carried b) (B.reaction b) (λ plan line s. IsAligned plan line → (budget : ℕ) (other : KeyValue → Bool)
+        → AreFew s budget → KeepsRounds budget s.kept → KeepsRounds budget other
+        → (entries : List EntryValue) → AreAllEntries (B.reaction b) plan s.until s.kept entries → AreAllEntries (B.reaction b) plan s.until other entries) }
+    ensures windows { (b : B) → OfEachFittingRun {B = B} (B.valid b) (B.carried b) (B.reaction b) (λ plan line s. IsAligned plan line → (budget : ℕ) (other : KeyValue → Bool)
+        → AreFew s budget → KeepsRounds budget s.kept → KeepsRounds budget other
+        → (count last : ℕ) → AreWindows s count last → AreWindows (scene_of (B.reaction b) plan s.until other line s.net) count last) }
 {}
