@@ -1,5 +1,5 @@
 -- How a run by steps begins, and what its end says of each answer.
-use Rattle.std.proofs.Common.{◌≡◌, ℕ, ◌+◌, ◌<◌, ◌≤◌, List, [], ◌∷◌, ◌++◌, length, min, Option, refl, sym, ap, ◌∙◌, subst, arith}
+use Rattle.std.proofs.Common.{◌≡◌, ◌⊎◌, inl, inr, ⊎_elim, ℕ, ◌+◌, ◌<◌, ◌≤◌, List, [], ◌∷◌, ◌++◌, length, min, Option, refl, sym, ap, ◌∙◌, subst, arith}
 use Rattle.std.specs.Prelude.{Bool}
 use Rattle.std.proofs.lemmas.List.{append-nil}
 use Rattle.event_order.specs.declared.key.Key.{Key}
@@ -14,7 +14,10 @@ use Rattle.ssf_model.specs.Scene.{Scene}
 use Rattle.ssf_model.specs.Truth.{AreFew}
 use Rattle.run_health.specs.Healthy.{MostEvents}
 use Rattle.alignment.specs.declared.labels.Mode.{Mode}
-use Rattle.alignment.specs.Alignment.{IsAlignment, line_of}
+use Rattle.alignment.specs.declared.timelines.AlignFault.{AlignFault}
+use Rattle.alignment.specs.declared.timelines.AlignFault.TheVariants as fault_of
+use Rattle.alignment.specs.Alignment.{IsAlignment, line_of, timeline_count}
+use Rattle.trace_writer.specs.Trace.{entries_text}
 use Rattle.trace_writer.specs.Report.{totals_of}
 use Rattle.trace_writer.proofs.Writing.{appends_none}
 use Rattle.core_rules.specs.Cores.{CoreView}
@@ -49,6 +52,7 @@ module _ {B S P : Type 0} (valid : B → Validity S) (carried : B → P → Type
 
 
     pub first_under_way : NoneLaw → (told : Told) (first : Output) → told.count ≡ 0 → told.below ≡ 0 → IsUnderWay (reaction task.plan.behaviour) names until task core told first first
+    unfolding entries_text
     first_under_way none told first count below = record {
       entries = [];
       keeps = subst (λ f. KeepsFrom (reaction task.plan.behaviour) until task core f) (sym below) first_keeps;
@@ -58,8 +62,9 @@ module _ {B S P : Type 0} (valid : B → Validity S) (carried : B → P → Type
       tallied = λ others is. is ∙ ap totals_of (sym (append-nil others));
     }
 
-  -- ---- what the end of a task says of each answer
+-- ---- what the end of a task says of each answer
 
+module _ {B S P : Type 0} where
   module _ (r : Reaction S P) (names : Names) (until : ℕ) (task : Task B S P) (first now : Output) where
     pub end_trace : (end : StepEnd) → HasEnded r names until task first now end
         → IfFinished end (λ crossed last. IsTraced r task.plan names until task.budget first.held now.held first.tally now.tally)
@@ -160,3 +165,24 @@ caused faults faults' (MemoryBelow below) h = tt
 caused faults faults' Memory h = tt
 caused faults faults' (TooManyTimelines count) h = tt
 caused faults faults' Write h = h
+
+pub caused_later : (a b faults : ℕ) (end : StepEnd) → a ≤ b → IsCaused b faults end → IsCaused a faults end
+caused_later a b faults (Finished crossed last) l h = tt
+caused_later a b faults (OverBudget timeline below) l h = tt
+caused_later a b faults (MemoryBelow below) l h = tt
+caused_later a b faults Memory l h = tt
+caused_later a b faults (TooManyTimelines count) l h = tt
+caused_later a b faults Write l (inl up) = inl (omega arith)
+caused_later a b faults Write l (inr stands) = inr stands
+
+-- an answer of a task that was begun, or want of memory
+pub or_memory : (end : StepEnd) (H : Type 0) (C : StepEnd → Type 0) → (end ≡ Memory) ⊎ H → C Memory → (H → C end) → C end
+or_memory end H C (inl none) m h = subst C (sym none) m
+or_memory end H C (inr ended) m h = h ended
+
+-- why a plan is not aligned, where this is not want of memory
+pub too_many_lines : {B S P : Type 0} (plan : Plan B S P) (nets : List ℕ) (mode : Mode) (fault : AlignFault) (count : ℕ) → fault ≡ fault_of.TooManyTimelines count
+    → (fault ≡ fault_of.Memory) ⊎ ((lines : List ℕ) × IsAlignment plan nets mode lines × (4096 < timeline_count lines) × (fault ≡ fault_of.TooManyTimelines (timeline_count lines)))
+    → (lines : List ℕ) × IsAlignment plan nets mode lines × (4096 < timeline_count lines) × (count ≡ timeline_count lines)
+too_many_lines plan nets mode fault count is (inl none) = absurd (cc)
+too_many_lines plan nets mode fault count is (inr many) = (let same : count ≡ timeline_count many.0 = (let both : fault_of.TooManyTimelines count ≡ fault_of.TooManyTimelines (timeline_count many.0) = sym is ∙ many.3 in cc) in (many.0, many.1, many.2, same))

@@ -11,7 +11,7 @@ use Rattle.ssf_model.specs.declared.event.Names.{Names}
 use Rattle.ssf_model.specs.declared.plan.Plan.{Plan}
 use Rattle.ssf_model.specs.Reaction.{Reaction, Validity, LatestTime}
 use Rattle.ssf_model.specs.Run.{Fits}
-use Rattle.ssf_model.specs.Scene.{scene_of}
+use Rattle.ssf_model.specs.Scene.{Net, scene_of}
 use Rattle.ssf_model.specs.Truth.{AreFew, line_entries}
 use Rattle.run_health.specs.Healthy.{MostEvents}
 use Rattle.sync_facts.specs.Nets.{net_of}
@@ -20,7 +20,7 @@ use Rattle.alignment.specs.declared.labels.Mode.{Mode}
 use Rattle.alignment.specs.Alignment.{IsAlignment, line_of, timeline_count}
 use Rattle.trace_writer.specs.Trace.{entries_text, record_text}
 use Rattle.trace_writer.specs.Report.{Totals, totals_of}
-use Rattle.trace_writer.specs.Merging.{CanMerge, merged}
+use Rattle.trace_writer.specs.Merging.{CanMerge, HasRoom, Room, merged}
 use Rattle.trace_writer.proofs.Writing.{appends_then, prefix_then, prefix_none}
 use Rattle.timeline.specs.View.{TimelineOf}
 use Rattle.timeline.specs.Sound.{IsRunOnLines}
@@ -29,6 +29,8 @@ use Rattle.core_rules.specs.Stepping.{without_below}
 use Rattle.core_rules.specs.Leading.{AreCoreSteps}
 use Rattle.core_rules.specs.Reading.{safe_bound_in, BudgetEndsIn}
 use Rattle.core_rules.proofs.Crosses.{window_round}
+use Rattle.core_rules.proofs.Lists.{map_length}
+use Rattle.timeline.specs.Moving.{without}
 use Rattle.core_traces.specs.Records.{AreEntriesBelow, AreAllEntries}
 use Rattle.core_traces.specs.Kept.{run_on, histories_of, IsCoreFrom, OfEachCoreFrom, HaveGrown}
 use Rattle.core_traces.specs.Ends.{AreWindows, EndsBudget}
@@ -39,7 +41,9 @@ use Rattle.sync_core.specs.declared.driving.Driven.{Driven}
 use Rattle.sync_core.specs.Driving.{IsOnward, EndsFirstAt}
 use Rattle.step_run.specs.Telling.{MostCounted, Told, IsTallied}
 use Rattle.step_run.specs.Endings.{AreRecordsBelow, AreAllRecords, IsTraced, IsWrittenBelow, IsPieceOfRecords, IsPartWritten}
-use Rattle.step_run.specs.Going.{Task, Output, IsGiven, KeepsFrom, IsUnderWay, GoesOn, IsWhole, IsOver, HasAdvanced, HasEnded, IfFurther, outcome_at, outcome}
+use Rattle.step_run.specs.Going.{Task, Output, IsGiven, KeepsFrom, IsUnderWay, GoesOn, IsWhole, IsOver, HasAdvanced, HasEnded, HasCause, IfFurther, outcome_at, outcome}
+use Rattle.step_run.specs.declared.running.Advanced.{Advanced}
+use Rattle.step_run.specs.declared.running.Advanced.TheVariants.{Further, Whole, Ended}
 
 -- ---- texts and tallies
 
@@ -63,7 +67,7 @@ tally_goes_on : (a b c : Totals) (xs ys : List Entry) → IsTallied a b xs → I
 tally_goes_on a b c xs ys p q told first = q (told ++ xs) (p told first) ∙ ap totals_of (append_assoc told xs ys)
 
 count_goes_on : (count more : ℕ) (xs ys : List Entry) → count ≡ min (length xs) MostCounted → more ≡ min (count + length ys) MostCounted → more ≡ min (length (xs ++ ys)) MostCounted
-count_goes_on told.count more.count xs ys p q = omega (arith, length-append xs ys)
+count_goes_on count more xs ys p q = omega (arith, length-append xs ys)
 
 module _ {B S P : Type 0} (valid : B → Validity S) (carried : B → P → Type 0) (reaction : B → Reaction S P) where
   -- ---- the laws
@@ -125,7 +129,7 @@ module _ {B S P : Type 0} (valid : B → Validity S) (carried : B → P → Type
     abbrev own : B
     own = task.plan.behaviour
 
-    abbrev net : ℕ → _
+    abbrev net : ℕ → Net
     net most = net_of task.plan (line_of task.lines) (timeline_count task.lines) task.threshold
 
     at_own : (core after : CoreView B S P) (from : ℕ) → KeepsFrom (reaction own) until task core from
@@ -311,10 +315,10 @@ module _ {B S P : Type 0} (valid : B → Validity S) (carried : B → P → Type
               → HasAdvanced (reaction own) names until task after more first then (outcome_at e used more.below)
           by_end drive.Finished used fin ov =
               subst (λ (c : CoreView B S P). IsWhole (reaction own) names until task more c.barrier.round c.barrier.window first then) (sym p.given_up)
-              (is_whole whole few windows (fin.to refl) more then p.at p.counted p.text p.tallied)
+              (is_whole whole few windows (fin.0 refl) more then p.at p.counted p.text p.tallied)
           by_end (drive.OverBudget i) used fin ov =
               subst (λ f. IsOver (reaction own) names until task i f first then) (sym p.at)
-              (is_over budget i ((ov i).to refl).1.here then p.text)
+              (is_over budget i ((ov i).0 refl).1.here then p.text)
           by_end drive.Crossed used fin ov =
               subst (λ (c : CoreView B S P). IsUnderWay (reaction own) names until task c more first then) (sym p.given_up)
               (goes_further give more then p.at p.counted p.text p.tallied)
@@ -327,3 +331,29 @@ if_further (Ok d) below P h = further_at d.end d.used h
     further_at drive.Finished used h = tt
     further_at (drive.OverBudget i) used h = tt
     further_at drive.Crossed used h = h refl
+
+pub if_always : (a : Advanced) (P : ℕ → Type 0) → ((used : ℕ) → P used) → IfFurther a P
+if_always (Further used) P h = h used
+if_always Whole P h = tt
+if_always (Ended end) P h = tt
+
+pub if_ok_each : {T E : Type 0} (r : Result T E) (P Q : T → Type 0) → ((x : T) → P x → Q x) → IfOk r P → IfOk r Q
+if_ok_each (Ok x) P Q f h = f x h
+if_ok_each (Err e) P Q f h = tt
+
+pub has_no_fault : (faults faults' : ℕ) (end : Result Driven NoMemory) (below : ℕ) → HasCause faults faults' (outcome end below)
+has_no_fault faults faults' (Err memory) below = tt
+has_no_fault faults faults' (Ok d) below = by_end d.end d.used
+  where
+    by_end : (e : DriveEnd) (used : ℕ) → HasCause faults faults' (outcome_at e used below)
+    by_end drive.Finished used = tt
+    by_end (drive.OverBudget i) used = tt
+    by_end drive.Crossed used = tt
+
+pub room_on : {B S P : Type 0} (names : Names) (core mid after : CoreView B S P) (old new : Room) (f : ℕ) → HasRoom names (length core.timelines) old → length mid.timelines ≡ length core.timelines
+    → after ≡ without_below f mid → old.line ≤ new.line → old.places ≤ new.places → HasRoom names (length after.timelines) new
+room_on names core mid after old new f room many is line places =
+    let all : length after.timelines ≡ length mid.timelines = ap (λ (c : CoreView _ _ _). length c.timelines) is ∙ map_length (without f) mid.timelines in
+    let lines = room.line in
+    let spots = room.places in
+    record { line = omega arith; places = omega arith }

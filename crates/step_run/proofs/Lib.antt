@@ -3,3 +3,4 @@ pub mod Going
 pub mod Counting
 pub mod Beginning
 pub mod Ending
+pub mod Laws

@@ -42,6 +42,9 @@ pub record Output : Type 0 where
   pub held : Option (List ℕ)
   pub tally : Totals
 
+abbrev pub output : Option (List ℕ) → Totals → Output
+output held tally = record { held = held; tally = tally }
+
 module _ {B S P : Type 0} where
   -- it is in range, and each entity has a name
   pub record IsGiven (valid : Validity S) (carried : P → Type 0) (names : Names) (until : ℕ) (task : Task B S P) : Type 0 where

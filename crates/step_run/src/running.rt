@@ -17,12 +17,7 @@ ghost use Rattle.ssf_model.specs.declared.event.Names.{Names as NamesValue};
 ghost use Rattle.trace_writer.specs.Report.{Totals};
 
 use crate::records::Records;
-use alignment::laws::alignments_are_one;
 use alignment::{AlignFault, Alignment, Classes, Mode, align, classify};
-use core_traces::laws::{
-    budgets_end_in_the_run, ended_runs_are_whole, entries_are_given_up, first_parts_keep_all,
-    histories_are_the_next_records, steps_keep_histories,
-};
 use sim_base::{Memory, Sink};
 use ssf_model::{Behaviour, Names, Plan};
 use std::alloc::Global;
@@ -76,6 +71,7 @@ enum Advanced {
 /// has the innermost Net of each entity, and `names` its name. The tally gets all events that are written.
 ///
 /// What is written is the same for every schedule, mode and threshold. It takes no memory for writing once the run is begun.
+#[tactic(none)]
 pub fn run_steps<B: Behaviour, K: Sink>(
     alloc: Global,
     plan: Plan<B>,
@@ -103,7 +99,6 @@ pub fn run_steps<B: Behaviour, K: Sink>(
     ensures cause { IfWrite result (Rose (K.faults out.old) (K.faults out.new)) }
     ensures never_falls { K.faults out.old ≤ K.faults out.new }
 {
-    alignments_are_one::<B>();
     match prepare(alloc, &plan, names, nets, order) {
         Ok(mut prepared) => run_prepared(alloc, plan, names, &mut prepared, order, tally, out),
         Err(AlignFault::TooManyTimelines(count)) => StepEnd::TooManyTimelines(count),
@@ -147,6 +142,7 @@ fn prepare<B: Behaviour>(
 }
 
 /// Shares the plan out by its alignment, and runs it to the end.
+#[tactic(none)]
 fn run_prepared<B: Behaviour, K: Sink>(
     alloc: Global,
     plan: Plan<B>,
@@ -172,7 +168,6 @@ fn run_prepared<B: Behaviour, K: Sink>(
     ensures cause { IsCaused (K.faults out.old) (K.faults out.new) result }
     ensures never_falls { K.faults out.old ≤ K.faults out.new }
 {
-    first_parts_keep_all::<B>();
     let before = plan.before;
     let Prepared {
         alignment,
@@ -217,6 +212,7 @@ fn go_on<B: Behaviour, K: Sink>(
 }
 
 /// Makes steps until the barrier was crossed some times or the run ends, and writes the next piece of the trace.
+#[tactic(none)]
 fn advance<B: Behaviour, K: Sink>(
     alloc: Global,
     core: &mut Core<B>,
@@ -239,11 +235,6 @@ fn advance<B: Behaviour, K: Sink>(
     ensures cause { HasCause (K.faults out.old) (K.faults out.new) result }
     ensures never_falls { K.faults out.old ≤ K.faults out.new }
 {
-    steps_keep_histories::<B>();
-    entries_are_given_up::<B>();
-    histories_are_the_next_records::<B>();
-    ended_runs_are_whole::<B>();
-    budgets_end_in_the_run::<B>();
     let driven = core.drive_some(schedule, CROSSINGS);
     match records.write_piece(alloc, names, core, tally, out) {
         Ok(()) => outcome_of(driven, records.below()),
@@ -269,6 +260,7 @@ fn outcome_of(driven: Result<Driven, Memory>, below: u64) -> Advanced
 }
 
 /// Writes the line that ends the trace.
+#[tactic(none)]
 fn write_end<B: Behaviour, K: Sink>(
     core: &Core<B>,
     records: &mut Records,
