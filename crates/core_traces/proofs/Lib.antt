@@ -1,0 +1,10 @@
+pub mod Lists
+pub mod Records
+pub mod Runs
+pub mod Steps
+pub mod First
+pub mod Keeps
+pub mod Merging
+pub mod Room
+pub mod Ends
+pub mod Cuts
