@@ -1,4 +1,5 @@
 pub mod Sessions
 pub mod Sources
+pub mod Stretches
 pub mod Delivered
 mod Worked
