@@ -1,5 +1,5 @@
 -- Along a run each server holds only what the host of its peer's address sent to it before.
-use Rattle.std.proofs.Common.{◌≡◌, ℕ, zero, suc, ◌+◌, ◌-◌, ◌<◌, ◌≤◌, ◌⊎◌, Bool, true, false, ◌&&◌, cond, Option, Some, None, List, [], ◌∷◌, ◌++◌, nat_eq, refl, subst, sym, ap, inl, inr, arith, zero-add, slice_get, slice_set, option_to_list}
+use Rattle.std.proofs.Common.{◌≡◌, ℕ, zero, suc, ◌+◌, ◌-◌, ◌<◌, ◌≤◌, ◌⊎◌, Bool, true, false, cond, Option, Some, None, List, [], ◌∷◌, ◌++◌, refl, subst, sym, ap, inl, inr, arith, zero-add, slice_get, slice_set, option_to_list}
 use Rattle.std.specs.List.{Contains, flat_map}
 use native.Mathlib.Nat.{suc-add}
 use Rattle.event_order.specs.declared.key.Key.{Key}
@@ -9,7 +9,6 @@ use Rattle.event_order.proofs.Pending.{among_append_left, among_append_right}
 use Rattle.event_order.proofs.Steps.{step_cases}
 use Rattle.sim_base.specs.SegmentFields.{SegmentFields}
 use Rattle.ssf_model.specs.declared.wait.Wake.{Wake}
-use Rattle.ssf_model.specs.declared.wait.Wake.TheVariants.{Begin as BeginWake, Timer as TimerWake, Message as MessageWake}
 use Rattle.ssf_model.specs.declared.wait.Kind.{Kind}
 use Rattle.ssf_model.specs.declared.wait.Kind.TheVariants.{Begin, Timer, Message}
 use Rattle.ssf_model.specs.declared.out.Written.TheVariants.{Channel}
@@ -18,7 +17,6 @@ use Rattle.ssf_model.specs.declared.process.Process.{Process}
 use Rattle.ssf_model.specs.declared.entity.Entity.{Entity}
 use Rattle.ssf_model.specs.declared.plan.Plan.{Plan}
 use Rattle.ssf_model.specs.Reaction.{Each, LatestTime}
-use Rattle.ssf_model.specs.Wake.{waits_on}
 use Rattle.ssf_model.specs.Deliver.{wake_of, reacted, delivered}
 use Rattle.ssf_model.specs.Channels.{delivered_to, entity_after}
 use Rattle.ssf_model.specs.Run.{States, acts_at, machine_of, world_after, run_event, Fits}

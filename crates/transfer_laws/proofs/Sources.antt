@@ -28,7 +28,7 @@ use Rattle.run_health.proofs.Delivers.{AdmitsFrom, admits_from}
 use Rattle.run_health.proofs.Healths.{own, given, carries}
 use Rattle.run_health.proofs.Along.{placed}
 use Rattle.ip_layer.specs.Packets.{PacketFields, IsPacket}
-use Rattle.ip_layer.specs.Forwarding.{has_address, passed_on}
+use Rattle.ip_layer.specs.Forwarding.{has_address}
 use Rattle.host_rules.specs.declared.rows.HostRows.{HostRows}
 use Rattle.host_rules.specs.declared.sockets.Sockets.{Sockets}
 use Rattle.host_rules.specs.Hosts.{HostFields}

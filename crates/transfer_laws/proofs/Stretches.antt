@@ -1,5 +1,5 @@
 -- What a server's turns make of the positions that it has passed, and what they tell.
-use Rattle.std.proofs.Common.{◌≡◌, ℕ, zero, suc, ◌+◌, ◌-◌, ◌≤◌, ◌⊎◌, Bool, true, false, Option, Some, List, [], ◌∷◌, ◌++◌, nat_lt, refl, sym, ap, subst, ◌∙◌, inl, inr, arith, zero-add}
+use Rattle.std.proofs.Common.{◌≡◌, ℕ, zero, suc, ◌+◌, ◌-◌, ◌⊎◌, Some, List, [], ◌∷◌, ◌++◌, nat_lt, refl, sym, ap, subst, ◌∙◌, inl, inr, arith, zero-add}
 use Rattle.sim_base.specs.declared.records.TcpConfig.{TcpConfig}
 use Rattle.sim_base.specs.declared.records.TcpState.{TcpState}
 use Rattle.sim_base.specs.declared.records.TcpState.TheVariants.{SynReceived, Established, LastAck, Closed}
@@ -7,8 +7,7 @@ use Rattle.sim_base.specs.SegmentFields.{SegmentFields}
 use Rattle.tcp_rules.specs.declared.records.Act.{Act}
 use Rattle.tcp_rules.specs.declared.records.Act.TheVariants.{Entered, Delivered, Send}
 use Rattle.tcp_rules.specs.Segments.{Turn, carries, is_ack_of}
-use Rattle.tcp_rules.specs.Servers.{ServerFields, hole, keeping, moved, delivery_of, listened, accepted, at_end, at_kept, at_data, established, opening, at_start, server_closed, at_last, server_at, server_segment, waiting, server_timeout}
-use Rattle.tcp_rules.specs.Sessions.{accepting}
+use Rattle.tcp_rules.specs.Servers.{ServerFields, hole, keeping, moved, delivery_of, listened, accepted, at_end, at_kept, at_data, established, at_start, at_last, server_at, server_segment, waiting, server_timeout}
 use Rattle.tcp_rules.proofs.Cases.{if_case}
 use Rattle.tcp_rules.proofs.Holes.{hole_low}
 use Rattle.tcp_rules.proofs.Receiving.{ack_is}
