@@ -34,6 +34,7 @@ use Rattle.transfer_laws.specs.Sent.{goes_to, segment_for, segments_from_one, se
 use Rattle.transfer_laws.specs.Stretch.{WaitsAfter, IsSynAt}
 use Rattle.transfer_laws.proofs.Delivered.{delivers_what_came, begins_with_syn, waits_after_delivered}
 use Rattle.network_transfers.specs.Senders.{IsHostOf, SendsTo, HasSent}
+use Rattle.network_transfers.proofs.Fitting.{network_fits}
 use Rattle.network_transfers.proofs.Addressed.{one_host, address_of_host}
 
 both : (a b : Bool) → (a && b) ≡ true → (a ≡ true) × (b ≡ true)
@@ -132,6 +133,9 @@ module _ {B : Type 0} (behaviour : B) (network : Network) (is : IsNetwork networ
     events = subst (λ (es : List (Event PacketFields)). Each (λ (e : Event PacketFields). IsNoMessage e.kind) es) (sym (starts_pend behaviour network plan built)) (quiet_starts (length network.hosts));
   }
 
+  fits : Fits IsHost IsPacket plan
+  fits = network_fits behaviour network plan is none built
+
   abbrev IsFound : Sockets → SegmentFields → ℕ → Type 0
   IsFound ends segment n = (h : ℕ) × IsHostOf network ends.peer h × HasSent plan until kept n h ends segment
 
@@ -162,20 +166,20 @@ module _ {B : Type 0} (behaviour : B) (network : Network) (is : IsNetwork networ
         | inr now ↦ found_now n ends segment (from_event ends segment (run_event host_reaction plan until kept n) (world_after host_reaction plan until kept n).state.entities now)
       ]
 
-  pub delivers_what_host_sent : Fits IsHost IsPacket plan → until ≤ LatestTime → (n : ℕ) (x : EntryFields) (server : ServerFields) → IsServing plan until kept n x server → (x.sockets.peer ≡ 0 → ⊥)
+  pub delivers_what_host_sent : until ≤ LatestTime → (n : ℕ) (x : EntryFields) (server : ServerFields) → IsServing plan until kept n x server → (x.sockets.peer ≡ 0 → ⊥)
       → (position : ℕ) → server.irs < position → position ≤ server.irs + server.delivered
       → (h : ℕ) × IsHostOf network x.sockets.peer h × (segment : SegmentFields) × HasSent plan until kept n h x.sockets segment × LiesIn position segment
-  delivers_what_host_sent fits in_time n x server serving known position low high =
+  delivers_what_host_sent in_time n x server serving known position low high =
       let one = lies_in_one position (segments_sent plan until kept x.sockets n) (delivers_what_came plan until in_time fits fresh kept n x server serving known position low high) in
       let sender = found n x.sockets one.0 one.1 in
       (sender.0, sender.1, one.0, sender.2, one.2)
 
-  pub syn_of_host : Fits IsHost IsPacket plan → until ≤ LatestTime → (n : ℕ) (x : EntryFields) (server : ServerFields) → IsServing plan until kept n x server → (x.sockets.peer ≡ 0 → ⊥)
+  pub syn_of_host : until ≤ LatestTime → (n : ℕ) (x : EntryFields) (server : ServerFields) → IsServing plan until kept n x server → (x.sockets.peer ≡ 0 → ⊥)
       → (h : ℕ) × IsHostOf network x.sockets.peer h × (segment : SegmentFields) × HasSent plan until kept n h x.sockets segment × IsSynAt server.irs segment
-  syn_of_host fits in_time n x server serving known =
+  syn_of_host in_time n x server serving known =
       let one = begins_with_syn plan until in_time fits fresh kept n x server serving known in
       let sender = found n x.sockets one.segment one.among in
       (sender.0, sender.1, one.segment, sender.2, one.is)
 
-  pub waits_in_network : Fits IsHost IsPacket plan → until ≤ LatestTime → (n : ℕ) (x : EntryFields) (server : ServerFields) → IsServing plan until kept n x server → WaitsAfter server.state server
-  waits_in_network fits in_time n x server serving = waits_after_delivered plan until in_time fits fresh kept n x server serving
+  pub waits_in_network : until ≤ LatestTime → (n : ℕ) (x : EntryFields) (server : ServerFields) → IsServing plan until kept n x server → WaitsAfter server.state server
+  waits_in_network in_time n x server serving = waits_after_delivered plan until in_time fits fresh kept n x server serving

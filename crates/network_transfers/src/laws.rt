@@ -25,19 +25,24 @@ pub fn addresses_have_one_host()
         → HasAddress network g address → HasAddress network h address → g ≡ h }
 {}
 
+/// Each plan of a network without a fault fits.
+pub fn plans_fit<B>()
+    ensures { (behaviour : B) (network : Network) (plan : Plan B HostFields PacketFields) → IsNetwork network → first_fault network ≡ None
+        → IsNetBuilt behaviour network plan → Fits IsHost IsPacket plan }
+{}
+
 /// In every run of the plan of a network without a fault, up to each time and under each cut: where a
 /// server's peer has an address other than 0, each position that the server has delivered lies in a
 /// segment that the one host of that address sent before, from the peer's port to the server's own
-/// address and port, and so does the SYN right after which these positions begin. Of the plan it is
-/// asked that it fits, as each plan that `net_plan::plan_of` answers does.
+/// address and port, and so does the SYN right after which these positions begin.
 pub fn servers_deliver_what_peers_sent<B>()
     ensures delivered { (behaviour : B) (network : Network) (plan : Plan B HostFields PacketFields) (until : ℕ) (kept : KeyValue → Bool)
-        → IsNetwork network → first_fault network ≡ None → IsNetBuilt behaviour network plan → Fits IsHost IsPacket plan → until ≤ LatestTime
+        → IsNetwork network → first_fault network ≡ None → IsNetBuilt behaviour network plan → until ≤ LatestTime
         → (n : ℕ) (x : EntryFields) (server : ServerFields) → IsServing plan until kept n x server → (x.sockets.peer ≡ 0 → ⊥)
         → (position : ℕ) → server.irs < position → position ≤ server.irs + server.delivered
         → (h : ℕ) × IsHostOf network x.sockets.peer h × (segment : SegmentFields) × HasSent plan until kept n h x.sockets segment × LiesIn position segment }
     ensures syn { (behaviour : B) (network : Network) (plan : Plan B HostFields PacketFields) (until : ℕ) (kept : KeyValue → Bool)
-        → IsNetwork network → first_fault network ≡ None → IsNetBuilt behaviour network plan → Fits IsHost IsPacket plan → until ≤ LatestTime
+        → IsNetwork network → first_fault network ≡ None → IsNetBuilt behaviour network plan → until ≤ LatestTime
         → (n : ℕ) (x : EntryFields) (server : ServerFields) → IsServing plan until kept n x server → (x.sockets.peer ≡ 0 → ⊥)
         → (h : ℕ) × IsHostOf network x.sockets.peer h × (segment : SegmentFields) × HasSent plan until kept n h x.sockets segment × IsSynAt server.irs segment }
 {}
@@ -47,6 +52,6 @@ pub fn servers_deliver_what_peers_sent<B>()
 /// stretch of positions without a gap.
 pub fn servers_deliver_without_gaps<B>()
     ensures { (behaviour : B) (network : Network) (plan : Plan B HostFields PacketFields) (until : ℕ) (kept : KeyValue → Bool)
-        → IsNetwork network → first_fault network ≡ None → IsNetBuilt behaviour network plan → Fits IsHost IsPacket plan → until ≤ LatestTime
+        → IsNetwork network → first_fault network ≡ None → IsNetBuilt behaviour network plan → until ≤ LatestTime
         → (n : ℕ) (x : EntryFields) (server : ServerFields) → IsServing plan until kept n x server → WaitsAfter server.state server }
 {}
