@@ -125,12 +125,12 @@ found_true test (y ∷ ys) x e = head_case (test y) refl e (found_true test ys x
     head_case true is e rest = let same : y ≡ x = cc in subst (λ z. test z ≡ true) same is
     head_case false is e rest = rest e
 
-found_is : (sockets : Sockets) (xs : List EntryFields) (x : EntryFields) → found sockets xs ≡ Some x → Among x xs × (same_sockets x.sockets sockets ≡ true)
+pub found_is : (sockets : Sockets) (xs : List EntryFields) (x : EntryFields) → found sockets xs ≡ Some x → Among x xs × (same_sockets x.sockets sockets ≡ true)
 unfolding found
 found_is sockets xs x e =
     (found_among (λ (y : EntryFields). same_sockets y.sockets sockets) xs x e, found_true (λ (y : EntryFields). same_sockets y.sockets sockets) xs x e)
 
-numbered_is : (number : ℕ) (xs : List EntryFields) (x : EntryFields) → numbered number xs ≡ Some x → Among x xs
+pub numbered_is : (number : ℕ) (xs : List EntryFields) (x : EntryFields) → numbered number xs ≡ Some x → Among x xs
 unfolding numbered
 numbered_is number xs x e = found_among (λ (y : EntryFields). nat_eq y.number number) xs x e
 
