@@ -1,5 +1,5 @@
 -- The plan of a network without a fault fits: none of the calls that make its draft is refused.
-use Rattle.std.proofs.Common.{◌≡◌, ℕ, zero, suc, ◌+◌, ◌<◌, ◌≤◌, ◌^◌, Bool, true, false, List, [], ◌∷◌, ◌++◌, length, map, take, get_or, slice_get, replicate, Option, Some, None, refl, sym, ap, subst, ◌∙◌, arith, length-set, length-append, ◌&&◌, ◌==◌, nat_lt, nat_le}
+use Rattle.std.proofs.Common.{◌≡◌, ℕ, zero, suc, ◌+◌, ◌<◌, ◌≤◌, ◌^◌, Bool, true, false, List, [], ◌∷◌, length, map, take, get_or, slice_get, replicate, Option, Some, None, refl, sym, ap, subst, ◌∙◌, arith, length-set, length-append, ◌&&◌, ◌==◌, nat_lt, nat_le}
 use Rattle.std.specs.Prelude.{slice_index}
 use Rattle.std.specs.List.{All, flat_map, remove}
 use Rattle.std.proofs.lemmas.Bool.Decides.{nat_tests}
@@ -24,7 +24,6 @@ use Rattle.net_graph.specs.declared.rows.SessionRow.{SessionRow}
 use Rattle.net_graph.specs.Networks.{IsNetwork, numbers, link_at}
 use Rattle.net_layout.specs.declared.wiring.Wire.{Wire}
 use Rattle.net_layout.specs.Wiring.{is_client, poke_wire, link_wire, wires_from, wires_of_link, wires_of}
-use Rattle.net_layout.specs.Arms.{first_interface}
 use Rattle.net_layout.specs.Ports.{port_count}
 use Rattle.net_layout.specs.Sessions.{timed_of, client_count}
 use Rattle.net_layout.specs.Faults.{first_fault}
@@ -125,10 +124,12 @@ module _ (network : Network) (is : IsNetwork network) where
         let entered : IsDraft t (with_host d network tables h) =
         draft_entity before.0 t d (host_state network tables h) flags (flags_few h) refl (within MostChannels (channels_of d + (1 + timers flags)) may.0) before.1 in
         let count : length d.entities ≡ h = length-map-range_with_len (host_entity network tables []) 0 h in
-        let more : length (with_host d network tables h).entities ≡ length d.entities + 1 = length-append d.entities _ in
-        (t, subst (IsDraft t) (host_made behaviour network tables h is)
-        (drafted_ins t (with_host d network tables h) h (port_count network h + 1) (omega (arith, count, more))
-        (λ k less. in_fits network tables {B = B} behaviour h k is lt (omega (arith, less))) entered))
+        let more : length (with_host d network tables h).entities ≡ length d.entities + 1 = length-append d.entities _ in (
+          t,
+          subst (IsDraft t) (host_made behaviour network tables h is)
+              (drafted_ins t (with_host d network tables h) h (port_count network h + 1) (omega (arith, count, more))
+              (λ k less. in_fits network tables {B = B} behaviour h k is lt (omega (arith, less))) entered),
+        )
 
     hosts_drafted : (h : ℕ) → h ≤ length network.hosts → IsDrafted h []
     hosts_drafted zero le = (0, subst (IsDraft 0) (sym (nothing_made behaviour network tables)) (kept_new behaviour [] [] [] [] refl refl refl refl))
@@ -149,10 +150,12 @@ module _ (network : Network) (is : IsNetwork network) where
         let known = not_refused (nat_le (length m.outs) n) _ _ (mapping_fits network tables {B = B} behaviour n wire keeps at is) in
         let led = not_refused (nat_le (length m.in_owners) wire.in_channel) _ _ known.1 in
         let short = not_refused (nat_lt LongestDelay ((out_at m n).delay + wire.delay)) _ _ led.1 in
-        let few = not_refused (nat_le MostChannels (channels_of m)) _ None short.1 in
-        (before.0, subst (IsDraft before.0) (wire_made behaviour network tables n wire is at)
-        (draft_mapping before.0 m n wire.in_channel wire.delay wire.priority (below (length m.outs) n known.0) (below (length m.in_owners) wire.in_channel led.0)
-        (within LongestDelay ((out_at m n).delay + wire.delay) short.0) (below MostChannels (channels_of m) few.0) (low_wire n wire at) opened))
+        let few = not_refused (nat_le MostChannels (channels_of m)) _ None short.1 in (
+          before.0,
+          subst (IsDraft before.0) (wire_made behaviour network tables n wire is at)
+              (draft_mapping before.0 m n wire.in_channel wire.delay wire.priority (below (length m.outs) n known.0) (below (length m.in_owners) wire.in_channel led.0)
+              (within LongestDelay ((out_at m n).delay + wire.delay) short.0) (below MostChannels (channels_of m) few.0) (low_wire n wire at) opened),
+        )
 
     wires_drafted : (n : ℕ) → n ≤ length (wires_of network) → IsDrafted (length network.hosts) (take n (wires_of network))
     wires_drafted zero le = hosts_drafted (length network.hosts) (omega arith)

@@ -1,5 +1,5 @@
 -- A host sends segments only between the ends of its sessions.
-use Rattle.std.proofs.Common.{◌≡◌, ℕ, ◌+◌, ◌-◌, ◌≤◌, ◌⊎◌, min, Bool, true, false, ◌&&◌, Option, Some, None, List, [], ◌∷◌, ◌++◌, nat_eq, refl, subst, sym, ◌∙◌, inl, inr, arith}
+use Rattle.std.proofs.Common.{◌≡◌, ℕ, ◌+◌, ◌-◌, ◌≤◌, min, Bool, true, false, ◌&&◌, Option, Some, None, List, [], ◌∷◌, nat_eq, refl, subst, sym, ◌∙◌, inl, inr, arith}
 use Rattle.std.specs.Prelude.{slice_get, slice_index, nat_lt}
 use Rattle.event_order.specs.Pending.{Among}
 use Rattle.sim_base.specs.SegmentFields.{SegmentFields}
@@ -9,7 +9,6 @@ use Rattle.spf_routes.specs.declared.graph.Route.{Route}
 use Rattle.spf_routes.specs.Best.{route_at}
 use Rattle.ssf_model.specs.declared.wait.Wake.{Wake}
 use Rattle.ssf_model.specs.declared.wait.Wake.TheVariants.{Begin, Timer, Message}
-use Rattle.ssf_model.specs.declared.out.Written.{Written}
 use Rattle.ssf_model.specs.Reaction.{Each}
 use Rattle.net_iface.specs.InterfaceFields.{InterfaceFields}
 use Rattle.net_iface.specs.DropTail.{offered, after_offer}
@@ -30,12 +29,12 @@ use Rattle.host_rules.specs.declared.sockets.Sockets.{Sockets}
 use Rattle.host_rules.specs.Hosts.{EntryFields, Stack, HostFields}
 use Rattle.host_rules.specs.Effects.{Effect, quiet, and_then}
 use Rattle.host_rules.specs.Sending.{routes_at, own_addresses, second_of, is_down, answered, with_interface, offering, over_link, from_port, next_hop, forwarded, by_verdict, sending, packet_of, done, all_done}
-use Rattle.host_rules.specs.Entries.{same_sockets, found, numbered, is_due, due, least, is_other, is_closed, settled, changed, ends}
+use Rattle.host_rules.specs.Entries.{found, numbered, is_due, due, least, is_other, is_closed, settled, changed, ends}
 use Rattle.host_rules.specs.Hearing.{entry_of, with_entry, with_transfer, transfer_sockets, opening_to, next_transfer, next_of, next_after, turned, listens_on, udp_arrived, may_accept, sockets_of, tcp_arrived_at, tcp_arrived, at_home, at_verdict, arrived, timed_out_at, timed_out, all_timed_out}
 use Rattle.host_rules.specs.Reacting.{Role, Receiver, Clock, Client, roles, blank_packet, is_same_tick, poke_unless, with_poke, heard, receiver_reply, ticked, clock_effect, left_of, with_left, refilled_by, refilled, datagram, present_server, datagram_to, datagram_sent, udp_turn, tcp_turn, udp_sent, client_turn, client_reply, role_reply, reply_of, host_reaction}
 use Rattle.host_rules.specs.Sources.{Brings}
 use Rattle.host_rules.proofs.Listing.{if_case, each_append, each_map, each_filter, each_among}
-use Rattle.transfer_laws.specs.Spoken.{GoesOut, AreEndsAt, IsBetweenEnds}
+use Rattle.transfer_laws.specs.Spoken.{AreEndsAt, IsBetweenEnds}
 use Rattle.transfer_laws.proofs.Sessions.{found_is, numbered_is}
 
 -- K holds of ends between which a host may send segments, and C of what it may write: what goes between such ends, and what brings no

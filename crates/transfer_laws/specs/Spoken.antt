@@ -1,5 +1,5 @@
 -- Between which ends a host sends segments.
-use Rattle.std.specs.Prelude.{ℕ, ◌≡◌, ◌⊎◌, ◌+◌, ◌≤◌, None}
+use Rattle.std.specs.Prelude.{◌≡◌, ◌⊎◌, ◌+◌, ◌≤◌, None}
 use Rattle.event_order.specs.Pending.{Among}
 use Rattle.ssf_model.specs.declared.wait.Wake.{Wake}
 use Rattle.ssf_model.specs.declared.wait.Wake.TheVariants.{Begin, Timer, Message}
