@@ -1,5 +1,5 @@
 -- What has no mark is not enabled, also after a step.
-use Rattle.std.proofs.Common.{ℕ, zero, suc, ◌≡◌, ◌+◌, ◌<◌, ◌≤◌, ◌⊎◌, inl, inr, Bool, true, false, cond, not, ◌&&◌, ◌||◌, nat_eq, nat_le, nat_lt, refl, sym, ap, ◌∙◌, subst, arith, eqb-true, eq-eqb, List, [], ◌∷◌, map, length, length-set, set, replicate, Option, Some, None, slice_get, Result, Ok, Err}
+use Rattle.std.proofs.Common.{ℕ, zero, suc, ◌≡◌, ◌<◌, ◌⊎◌, inl, inr, Bool, true, cond, not, ◌&&◌, ◌||◌, nat_eq, nat_le, nat_lt, refl, sym, ap, ◌∙◌, subst, arith, eqb-true, eq-eqb, List, [], ◌∷◌, map, length, length-set, set, replicate, Option, Some, None, slice_get, Result, Ok, Err}
 use Rattle.std.specs.Prelude.{is_none, unwrap_or, IfOk}
 use Rattle.event_order.specs.Pending.{Among}
 use Rattle.event_order.proofs.Pending.{test_cases}
@@ -10,7 +10,7 @@ use Rattle.timeline_parts.specs.declared.part.Cross.{Cross}
 use Rattle.timeline_parts.specs.Parts.{channel_of}
 use Rattle.plan_shares.specs.declared.crosses.CrossEnd.{CrossEnd}
 use Rattle.timeline.specs.View.{TimelineOf}
-use Rattle.timeline.specs.Holding.{low_in, is_over}
+use Rattle.timeline.specs.Holding.{low_in}
 use Rattle.timeline.specs.Executing.{refusal}
 use Rattle.timeline.specs.Moving.{can_enter, entered_at}
 use Rattle.timeline.specs.Lines.{outbox_of}
@@ -19,14 +19,14 @@ use Rattle.barrier_window.specs.BarrierFields.{BarrierFields}
 use Rattle.barrier_window.specs.Crossings.{crossing, after_crossing}
 use Rattle.sync_steps.specs.declared.steps.Step.{Step}
 use Rattle.sync_steps.specs.declared.steps.Step.TheVariants.{Execute, Post, Take, Enter, Report, Cross as CrossStep}
-use Rattle.sync_steps.specs.Between.{can_post, promise_in, can_take, can_report, is_silent, IsPostedTo, IsTakenFrom}
+use Rattle.sync_steps.specs.Between.{can_post, promise_in, can_take, can_report, is_silent}
 use Rattle.core_rules.specs.Cores.{CoreView}
-use Rattle.core_rules.specs.Stepping.{passes, end_at, is_enabled, can_post_in, can_post_to, with_timeline, with_mail_of, with_barrier, IsMade, IsPostedIn, IsTakenIn, IsReportedIn, IsCrossedIn}
+use Rattle.core_rules.specs.Stepping.{passes, end_at, is_enabled, can_post_in, can_post_to, with_timeline, with_mail_of, with_barrier, IsMade, IsPostedIn, IsTakenIn, IsReportedIn}
 use Rattle.core_rules.proofs.Lists.{not_equal, listed, get_known}
 use Rattle.sync_core.specs.declared.work.Kind.{Kind}
 use Rattle.sync_core.specs.declared.work.Kind.TheVariants.{Executes, Posts, Takes, Enters, Reports}
 use Rattle.sync_core.specs.declared.work.Work.{Work}
-use Rattle.sync_core.specs.Steps.{posts_of, receiver_from}
+use Rattle.sync_core.specs.Steps.{receiver_from}
 use Rattle.sync_core.specs.Choosing.{posts_at, steps_of, Covers, IsWorkOf, HasMarks, IsMarkedAt, own_timeline, taker_of}
 use Rattle.sync_core.proofs.Firsts.{all_marked}
 

@@ -1,8 +1,6 @@
 -- What steps leave of all parts: histories grow.
-use Rattle.std.proofs.Common.{ℕ, ◌≡◌, ◌+◌, ◌<◌, inl, inr, refl, sym, ap, ◌∙◌, subst, arith, List, [], ◌∷◌, ◌++◌, length, length-append, length-set, set, Some, slice_get, true, false, nat_eq, eqb-true}
+use Rattle.std.proofs.Common.{ℕ, ◌≡◌, inl, inr, refl, sym, ap, ◌∙◌, subst, arith, List, [], ◌∷◌, ◌++◌, length-append, length-set, set, Some, slice_get}
 use Rattle.std.proofs.lemmas.List.{append_assoc, append-nil}
-use Rattle.event_order.proofs.Pending.{test_cases}
-use Rattle.ssf_model.specs.declared.event.Entry.{Entry}
 use Rattle.ssf_model.specs.Reaction.{Reaction}
 use Rattle.ssf_model.specs.Run.{entry_by}
 use Rattle.timeline.specs.View.{TimelineOf}

@@ -1,25 +1,20 @@
 -- Steps one after the other, up to an end.
-use Rattle.std.proofs.Common.{ℕ, zero, suc, ◌≡◌, ◌+◌, ◌-◌, ◌<◌, ◌≤◌, ◌⊎◌, ◌↔◌, inl, inr, min, nat_lt, cond, Bool, true, false, refl, sym, ap, ◌∙◌, subst, arith, lt-ltb, List, [], ◌∷◌, length, drop, set, Option, Some, None, slice_get, Result, Ok, Err}
+use Rattle.std.proofs.Common.{ℕ, zero, suc, ◌≡◌, ◌+◌, ◌-◌, ◌<◌, ◌≤◌, ◌↔◌, inl, inr, min, nat_lt, cond, Bool, true, false, refl, sym, ap, ◌∙◌, subst, arith, lt-ltb, List, [], ◌∷◌, length, drop, Option, Some, None, slice_get, Result, Ok, Err}
 use Rattle.std.specs.Prelude.{OnErr, IfOk, IfSome}
 use Rattle.std.specs.List.{filter}
 use Rattle.std.proofs.lemmas.Bool.{le-ltb, cases_lt}
 use Rattle.event_order.proofs.Pending.{test_cases}
-use Rattle.sim_base.specs.MemoryObjects.{risen}
 use Rattle.ssf_model.specs.Reaction.{Reaction, Validity, KeepsValid}
 use Rattle.ssf_model.specs.Deliver.{IsModest}
 use Rattle.barrier_window.specs.BarrierFields.{BarrierFields}
 use Rattle.barrier_window.specs.declared.barrier.Crossing.{Crossing}
 use Rattle.barrier_window.specs.declared.barrier.Crossing.TheVariants.{Crossed as WasCrossed, Waiting, Ended}
 use Rattle.barrier_window.specs.Crossings.{after_crossing, crossing}
-use Rattle.timeline.specs.View.{TimelineOf}
-use Rattle.sync_steps.specs.declared.steps.Stepped.{Stepped}
-use Rattle.sync_steps.specs.declared.steps.Stepped.TheVariants.{Did, NotEnabled}
 use Rattle.sync_steps.specs.declared.steps.Step.{Step}
 use Rattle.sync_steps.specs.declared.steps.Step.TheVariants.{Execute, Post, Take, Enter, Report, Cross}
-use Rattle.sync_steps.specs.Between.{stepped}
 use Rattle.core_rules.specs.Cores.{CoreView, IsCoreOfRun}
 use Rattle.core_rules.specs.Leading.{AreCoreSteps}
-use Rattle.core_rules.specs.Stepping.{is_enabled, IsMade, IsSpentIn, with_barrier}
+use Rattle.core_rules.specs.Stepping.{is_enabled, IsMade, with_barrier}
 use Rattle.core_rules.specs.Reading.{BudgetEndsIn}
 use Rattle.core_rules.specs.Ending.{steps_left}
 use Rattle.core_rules.proofs.Leads.{none_joins, steps_joined}
@@ -28,8 +23,8 @@ use Rattle.sync_core.specs.declared.driving.CoreEnd.TheVariants.{OverBudget as C
 use Rattle.sync_core.specs.declared.driving.Driven.{Driven}
 use Rattle.sync_core.specs.declared.driving.DriveEnd.{DriveEnd}
 use Rattle.sync_core.specs.declared.driving.DriveEnd.TheVariants.{Finished, OverBudget, Crossed}
-use Rattle.sync_core.specs.Steps.{IsRefused, enabled_steps, all_steps}
-use Rattle.sync_core.specs.Driving.{EndsFirstAt, HasCome, GoesOn, IsTried, IsFirstMade, AreTries, AreTriesUpTo, IsOnward}
+use Rattle.sync_core.specs.Steps.{all_steps}
+use Rattle.sync_core.specs.Driving.{EndsFirstAt, HasCome, GoesOn, IsTried, AreTries, AreTriesUpTo, IsOnward}
 use Rattle.sync_core.specs.Choosing.{last_round, IsNotPast, IsDue, IsNextStep, IsNextTry, IsLeft}
 use Rattle.sync_core.proofs.Onward.{none_onward, more_onward}
 

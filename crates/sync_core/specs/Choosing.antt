@@ -1,5 +1,5 @@
 -- How the next step is found. No public clause cites this file.
-use Rattle.std.specs.Prelude.{ℕ, ◌≡◌, ◌+◌, ◌<◌, ◌≤◌, ◌⊎◌, Bool, true, false, List, [], ◌∷◌, drop, length, Option, Some, None, slice_get, slice_set, unwrap_or}
+use Rattle.std.specs.Prelude.{ℕ, ◌≡◌, ◌+◌, ◌≤◌, ◌⊎◌, Bool, true, false, List, [], ◌∷◌, length, Option, Some, None, slice_get, slice_set, unwrap_or}
 use Rattle.std.specs.List.{flat_map}
 use Rattle.event_order.specs.Pending.{Among}
 use Rattle.ssf_model.specs.Reaction.{Reaction}
@@ -10,13 +10,12 @@ use Rattle.sync_steps.specs.declared.steps.Step.{Step}
 use Rattle.sync_steps.specs.declared.steps.Step.TheVariants.{Execute, Post, Take, Enter, Report, Cross}
 use Rattle.core_rules.specs.Cores.{CoreView}
 use Rattle.core_rules.specs.Stepping.{end_at, is_enabled, IsSpentIn}
-use Rattle.core_rules.specs.Reading.{BudgetEndsIn}
 use Rattle.sync_core.specs.declared.driving.DriveEnd.{DriveEnd}
 use Rattle.sync_core.specs.declared.driving.DriveEnd.TheVariants.{Finished, OverBudget, Crossed}
 use Rattle.sync_core.specs.declared.work.Kind.{Kind}
 use Rattle.sync_core.specs.declared.work.Kind.TheVariants.{Executes, Posts, Takes, Enters, Reports}
 use Rattle.sync_core.specs.declared.work.Work.{Work}
-use Rattle.sync_core.specs.Driving.{EndsFirstAt, GoesOn, HasCome, IsTried, IsFirstMade}
+use Rattle.sync_core.specs.Driving.{EndsFirstAt, HasCome, IsTried, IsFirstMade}
 use Rattle.sync_core.specs.Steps.{posts_of, numbers_in, enabled_steps, receiver_from}
 
 -- so many timelines have marks for each kind

@@ -1,4 +1,3 @@
-use Rattle.std.proofs.Common.{◌∙◌}
 use Rattle.sync_core.proofs.Marking.{work_all}
 use Rattle.sync_core.proofs.core_parts.Core.all_work.Goals as goal
 

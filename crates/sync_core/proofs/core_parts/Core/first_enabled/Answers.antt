@@ -1,4 +1,4 @@
-use Rattle.std.proofs.Common.{◌≡◌, sym, ◌∙◌}
+use Rattle.std.proofs.Common.{sym, ◌∙◌}
 use Rattle.sync_core.proofs.Firsts.{enabled_1, enabled_2, enabled_3, enabled_4, enabled_5, enabled_6}
 use Rattle.sync_core.proofs.core_parts.Core.first_enabled.Goals as goal
 

@@ -1,4 +1,4 @@
-use Rattle.std.proofs.Common.{sym, ap, ◌∙◌, subst, drop}
+use Rattle.std.proofs.Common.{ap, ◌∙◌, subst, drop}
 use Rattle.core_rules.specs.Cores.{CoreView}
 use Rattle.core_rules.specs.Leading.{AreCoreSteps}
 use Rattle.core_rules.proofs.Leads.{none_joins, steps_joined}

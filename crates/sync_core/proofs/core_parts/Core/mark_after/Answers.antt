@@ -1,4 +1,4 @@
-use Rattle.std.proofs.Common.{◌≡◌, sym, ◌∙◌}
+use Rattle.std.proofs.Common.{sym, ◌∙◌}
 use Rattle.sync_core.proofs.Marking.{made_work, work_after, crossed_after, has_marks}
 use Rattle.sync_core.proofs.core_parts.Core.mark_after.Goals as goal
 
