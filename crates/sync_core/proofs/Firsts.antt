@@ -1,5 +1,5 @@
 -- The first of the enabled steps, by marks.
-use Rattle.std.proofs.Common.{ℕ, zero, suc, ◌≡◌, ◌+◌, ◌<◌, ◌≤◌, ◌⊎◌, inl, inr, Bool, true, false, cond, refl, sym, ap, ◌∙◌, subst, arith, List, [], ◌∷◌, ◌++◌, map, take, length, length-set, set, get_or, replicate, Option, Some, None, slice_get}
+use Rattle.std.proofs.Common.{ℕ, zero, suc, ◌≡◌, ◌+◌, ◌<◌, ◌≤◌, ◌⊎◌, inl, inr, Bool, true, false, refl, sym, ap, ◌∙◌, subst, arith, List, [], ◌∷◌, ◌++◌, map, take, length, length-set, set, get_or, replicate, Option, Some, None, slice_get}
 use Rattle.std.specs.List.{filter, flat_map, range_with_len, enumerate_from}
 use Rattle.std.proofs.lemmas.List.{append_assoc, take_all}
 use Rattle.std.proofs.lemmas.List.Elements.{filter-append}
@@ -109,10 +109,6 @@ first_found p f (y ∷ ys) (suc i) x none h is on = elim (test_cases (p (f y))) 
 
 pub first_passed : {A X : Type 0} (p : X → Bool) (f : A → X) (xs : List A) (i : ℕ) → filter p (map f (take i xs)) ≡ [] → length xs ≤ i → slice_get (filter p (map f xs)) 0 ≡ None
 first_passed p f xs i none h = ap (λ l. slice_get (filter p (map f l)) 0) (sym (take_all i xs h)) ∙ ap (λ l. slice_get l 0) none
-
-pub if_passes : {X : Type 0} (p : X → Bool) (x : X) (b : Bool) → b ≡ p x → cond b (Some x) None ≡ slice_get (filter p (x ∷ [])) 0
-if_passes p x true is = rw (← is) refl
-if_passes p x false is = rw (← is) refl
 
 -- ---- marks
 
@@ -246,9 +242,6 @@ module _ {B S P : Type 0} where
   ends_not_at core i t bound own is none q =
       let same : q.timeline ≡ t = own_is core core i q.timeline t refl q.own own in
       none (subst (λ u. is_over u ≡ true) same q.over) (subst (λ u. low_in u ≡ bound) same (q.least ∙ sym is))
-
-  pub ends_at : (core : CoreView B S P) (i : ℕ) (t : TimelineOf B S P) (bound : ℕ) → slice_get core.timelines i ≡ Some t → bound ≡ safe_bound_in core → is_over t ≡ true → low_in t ≡ bound → BudgetEndsIn core i
-  ends_at core i t bound own is over low = record { timeline = t; own = own; over = over; least = low ∙ is }
 
   pub inside_at : (inner core : CoreView B S P) (i : ℕ) (t : TimelineOf B S P) → inner ≡ core → slice_get inner.timelines i ≡ Some t → slice_get core.timelines i ≡ Some t
   inside_at inner core i t same own = subst (λ (k : CoreView B S P). slice_get k.timelines i ≡ Some t) same own

@@ -1,5 +1,5 @@
 -- What has no mark is not enabled, also after a step.
-use Rattle.std.proofs.Common.{ℕ, zero, suc, ◌≡◌, ◌<◌, ◌⊎◌, inl, inr, Bool, true, cond, not, ◌&&◌, ◌||◌, nat_eq, nat_le, nat_lt, refl, sym, ap, ◌∙◌, subst, arith, eqb-true, eq-eqb, List, [], ◌∷◌, map, length, length-set, set, replicate, Option, Some, None, slice_get, Result, Ok, Err}
+use Rattle.std.proofs.Common.{ℕ, zero, suc, ◌≡◌, ◌<◌, ◌⊎◌, inl, inr, Bool, true, cond, ◌&&◌, ◌||◌, nat_eq, nat_lt, refl, sym, ap, ◌∙◌, subst, arith, eqb-true, eq-eqb, List, [], ◌∷◌, map, length, length-set, set, replicate, Option, Some, None, slice_get, Result, Ok, Err}
 use Rattle.std.specs.Prelude.{is_none, unwrap_or, IfOk}
 use Rattle.event_order.specs.Pending.{Among}
 use Rattle.event_order.proofs.Pending.{test_cases}
@@ -10,7 +10,6 @@ use Rattle.timeline_parts.specs.declared.part.Cross.{Cross}
 use Rattle.timeline_parts.specs.Parts.{channel_of}
 use Rattle.plan_shares.specs.declared.crosses.CrossEnd.{CrossEnd}
 use Rattle.timeline.specs.View.{TimelineOf}
-use Rattle.timeline.specs.Holding.{low_in}
 use Rattle.timeline.specs.Executing.{refusal}
 use Rattle.timeline.specs.Moving.{can_enter, entered_at}
 use Rattle.timeline.specs.Lines.{outbox_of}
@@ -19,7 +18,7 @@ use Rattle.barrier_window.specs.BarrierFields.{BarrierFields}
 use Rattle.barrier_window.specs.Crossings.{crossing, after_crossing}
 use Rattle.sync_steps.specs.declared.steps.Step.{Step}
 use Rattle.sync_steps.specs.declared.steps.Step.TheVariants.{Execute, Post, Take, Enter, Report, Cross as CrossStep}
-use Rattle.sync_steps.specs.Between.{can_post, promise_in, can_take, can_report, is_silent}
+use Rattle.sync_steps.specs.Between.{can_post, promise_in, can_take, can_report}
 use Rattle.core_rules.specs.Cores.{CoreView}
 use Rattle.core_rules.specs.Stepping.{passes, end_at, is_enabled, can_post_in, can_post_to, with_timeline, with_mail_of, with_barrier, IsMade, IsPostedIn, IsTakenIn, IsReportedIn}
 use Rattle.core_rules.proofs.Lists.{not_equal, listed, get_known}
@@ -211,9 +210,6 @@ module _ {B S P : Type 0} where
   posts_at_among : (k : ℕ) (o : Option (TimelineOf B S P)) (step : Step) → Among step (posts_at k o) → (c : ℕ) × (step ≡ Post k c)
   posts_at_among k None step a = absurd a
   posts_at_among k (Some t) step a = posts_among k t.outs step a
-
-  report_by : Bool → Option (Option ℕ) → ℕ → TimelineOf B S P → Bool
-  report_by ended report window t = not ended && (is_silent report && (nat_eq t.entered window && nat_le window (low_in t)))
 
   module _ (core after : CoreView B S P) (i j : ℕ) (q : Spares i j core after) where
     execute_spared : (k : ℕ) → (k ≡ i → ⊥) → is_enabled after (Execute k) ≡ is_enabled core (Execute k)
