@@ -6,11 +6,13 @@
 //! definitions of `core_rules`.
 #![tactic(auto)]
 
+mod choosing;
 mod core_parts;
 mod driving;
 mod ends;
 mod finding;
 mod stepping;
+mod work;
 
 pub use core_parts::{Core, Parts};
 pub use driving::{CoreEnd, DriveEnd, Driven};
