@@ -1,10 +1,10 @@
 -- How a run by steps begins, and what its end says of each answer.
-use Rattle.std.proofs.Common.{◌≡◌, ◌⊎◌, inl, inr, ⊎_elim, ℕ, ◌+◌, ◌<◌, ◌≤◌, List, [], ◌∷◌, ◌++◌, length, min, Option, refl, sym, ap, ◌∙◌, subst, arith}
+use Rattle.std.proofs.Common.{◌≡◌, ◌⊎◌, inl, inr, ℕ, ◌<◌, ◌≤◌, List, [], sym, ap, ◌∙◌, subst, arith}
 use Rattle.std.specs.Prelude.{Bool}
 use Rattle.std.proofs.lemmas.List.{append-nil}
 use Rattle.event_order.specs.declared.key.Key.{Key}
 use Rattle.event_order.specs.Machine.{within}
-use Rattle.sim_base.specs.Outside.{Appends, Rose}
+use Rattle.sim_base.specs.Outside.{Rose}
 use Rattle.ssf_model.specs.declared.event.Event.{Event}
 use Rattle.ssf_model.specs.declared.event.Names.{Names}
 use Rattle.ssf_model.specs.declared.plan.Plan.{Plan}
@@ -27,7 +27,7 @@ use Rattle.core_traces.specs.Kept.{run_on, IsCoreFrom}
 use Rattle.core_traces.specs.Ends.{AreWindows, EndsBudget}
 use Rattle.step_run.specs.declared.running.StepEnd.{StepEnd}
 use Rattle.step_run.specs.declared.running.StepEnd.TheVariants.{Finished, OverBudget, MemoryBelow, Memory, TooManyTimelines, Write}
-use Rattle.step_run.specs.Telling.{MostCounted, Told}
+use Rattle.step_run.specs.Telling.{Told}
 use Rattle.step_run.specs.Endings.{IfFinished, IfOverBudget, IfMemoryBelow, IfTooMany, IfWrite, IfNotBegun, IfBegun, IsTraced, IsWrittenBelow, IsPartWritten, OnTimelines}
 use Rattle.step_run.specs.Going.{Task, Output, IsGiven, KeepsFrom, IsUnderWay, GoesOn, HasEnded, IsCaused}
 
@@ -48,8 +48,7 @@ module _ {B S P : Type 0} (valid : B → Validity S) (carried : B → P → Type
         law task.plan.behaviour task.plan task.nets task.mode task.lines task.threshold until task.budget most core given.fits given.aligned given.in_time given.most low is_first
 
     pub first_goes_on : GoesOn valid carried reaction names until core
-    first_goes_on = record { task = task; given = given; from = 0; keeps = first_keeps; }
-
+    first_goes_on = record { task = task; given = given; from = 0; keeps = first_keeps }
 
     pub first_under_way : NoneLaw → (told : Told) (first : Output) → told.count ≡ 0 → told.below ≡ 0 → IsUnderWay (reaction task.plan.behaviour) names until task core told first first
     unfolding entries_text

@@ -1,5 +1,5 @@
 -- How a run by steps ends where all was executed.
-use Rattle.std.proofs.Common.{◌≡◌, ℕ, ◌+◌, ◌*◌, ◌<◌, ◌≤◌, List, [], ◌∷◌, ◌++◌, length, min, Option, refl, sym, ap, ◌∙◌, subst, inl, inr, arith}
+use Rattle.std.proofs.Common.{◌≡◌, ℕ, ◌+◌, ◌≤◌, List, [], ◌++◌, length, min, refl, ap, ◌∙◌, subst, inr, arith}
 use Rattle.std.proofs.lemmas.List.{append-nil}
 use Rattle.event_order.specs.declared.key.Key.{Key}
 use Rattle.event_order.specs.Machine.{within}
@@ -11,12 +11,11 @@ use Rattle.ssf_model.specs.declared.plan.Plan.{Plan}
 use Rattle.ssf_model.specs.Reaction.{Reaction, Validity}
 use Rattle.alignment.specs.Alignment.{timeline_count}
 use Rattle.trace_writer.specs.Trace.{entries_text, end_line, trace_text}
-use Rattle.trace_writer.specs.Report.{Totals}
 use Rattle.trace_writer.proofs.Writing.{appends_then, prefix_then}
 use Rattle.core_traces.specs.Records.{AreAllEntries}
 use Rattle.core_traces.specs.Kept.{run_on}
 use Rattle.step_run.specs.Telling.{MostCounted, Told}
-use Rattle.step_run.specs.Endings.{IsTraced, IsWrittenBelow, IsPieceOfTrace, IsPartWritten}
+use Rattle.step_run.specs.Endings.{IsWrittenBelow, IsPartWritten}
 use Rattle.step_run.specs.Going.{Task, Output, IsGiven, IsWhole, IsFinished}
 use Rattle.step_run.proofs.Counting.{few_in_all, few_enough}
 

@@ -1,6 +1,6 @@
 -- How a run by steps goes on from one piece of its trace to the next. The laws of pieces of a trace are taken as they are
 -- told.
-use Rattle.std.proofs.Common.{◌≡◌, ℕ, ◌+◌, ◌-◌, ◌<◌, ◌≤◌, ◌⊎◌, Bool, true, false, List, [], ◌∷◌, ◌++◌, length, map, min, Option, Some, slice_get, refl, sym, ap, ◌∙◌, subst, inl, inr, arith, append_assoc, length-append, Result, Ok, Err, IfOk, ◌↔◌}
+use Rattle.std.proofs.Common.{◌≡◌, ℕ, ◌+◌, ◌<◌, ◌≤◌, Bool, true, false, List, [], ◌∷◌, ◌++◌, length, min, Option, refl, sym, ap, ◌∙◌, subst, inl, arith, append_assoc, length-append, Result, Ok, Err, IfOk, ◌↔◌}
 use Rattle.std.proofs.lemmas.Option.{slice_get_within, slice_get-get_or}
 use Rattle.std.proofs.lemmas.Grind.{flat_map-append}
 use Rattle.event_order.specs.declared.key.Key.{Key}
@@ -12,7 +12,7 @@ use Rattle.ssf_model.specs.declared.plan.Plan.{Plan}
 use Rattle.ssf_model.specs.Reaction.{Reaction, Validity, LatestTime}
 use Rattle.ssf_model.specs.Run.{Fits}
 use Rattle.ssf_model.specs.Scene.{Net, scene_of}
-use Rattle.ssf_model.specs.Truth.{AreFew, line_entries}
+use Rattle.ssf_model.specs.Truth.{AreFew}
 use Rattle.run_health.specs.Healthy.{MostEvents}
 use Rattle.sync_facts.specs.Nets.{net_of}
 use Rattle.sync_rules.proofs.Windows.{window_most}
@@ -21,8 +21,7 @@ use Rattle.alignment.specs.Alignment.{IsAlignment, line_of, timeline_count}
 use Rattle.trace_writer.specs.Trace.{entries_text, record_text}
 use Rattle.trace_writer.specs.Report.{Totals, totals_of}
 use Rattle.trace_writer.specs.Merging.{CanMerge, HasRoom, Room, merged}
-use Rattle.trace_writer.proofs.Writing.{appends_then, prefix_then, prefix_none}
-use Rattle.timeline.specs.View.{TimelineOf}
+use Rattle.trace_writer.proofs.Writing.{appends_then, prefix_then}
 use Rattle.timeline.specs.Sound.{IsRunOnLines}
 use Rattle.core_rules.specs.Cores.{CoreView, IsCoreOfRun, IsSoundFor}
 use Rattle.core_rules.specs.Stepping.{without_below}
@@ -40,8 +39,8 @@ use Rattle.sync_core.specs.declared.driving.DriveEnd.TheVariants as drive
 use Rattle.sync_core.specs.declared.driving.Driven.{Driven}
 use Rattle.sync_core.specs.Driving.{IsOnward, EndsFirstAt}
 use Rattle.step_run.specs.Telling.{MostCounted, Told, IsTallied}
-use Rattle.step_run.specs.Endings.{AreRecordsBelow, AreAllRecords, IsTraced, IsWrittenBelow, IsPieceOfRecords, IsPartWritten}
-use Rattle.step_run.specs.Going.{Task, Output, IsGiven, KeepsFrom, IsUnderWay, GoesOn, IsWhole, IsOver, HasAdvanced, HasEnded, HasCause, IfFurther, outcome_at, outcome}
+use Rattle.step_run.specs.Endings.{AreRecordsBelow, AreAllRecords, IsWrittenBelow, IsPartWritten}
+use Rattle.step_run.specs.Going.{Task, Output, IsGiven, KeepsFrom, IsUnderWay, IsWhole, IsOver, HasAdvanced, HasCause, IfFurther, outcome_at, outcome}
 use Rattle.step_run.specs.declared.running.Advanced.{Advanced}
 use Rattle.step_run.specs.declared.running.Advanced.TheVariants.{Further, Whole, Ended}
 
@@ -219,7 +218,16 @@ module _ {B S P : Type 0} (valid : B → Validity S) (carried : B → P → Type
           subst (λ u. IsSoundFor task.plan line (scene_of (reaction own) task.plan u kept line n) core here.at here.before) last here.sound in
           let in_time : core.until ≤ LatestTime = (let low = given.in_time in omega arith) in
           let all : IsCoreOfRun (valid own) (carried own) (reaction own) core = record {
-            plan = task.plan; line = line; net = n; kept = kept; fits = given.fits; in_time = in_time; run = run; at = here.at; before = here.before; sound = sound;
+            plan = task.plan;
+            line = line;
+            net = n;
+            kept = kept;
+            fits = given.fits;
+            in_time = in_time;
+            run = run;
+            at = here.at;
+            before = here.before;
+            sound = sound;
           } in
           subst (λ d. IsCoreOfRun (valid d) (carried d) (reaction d) core) (sym here.sound.kept.behaviour) all
 

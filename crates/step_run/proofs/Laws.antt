@@ -1,5 +1,4 @@
 -- The laws of pieces of a trace, for the behaviours of a run.
-use Rattle.std.proofs.Common.{ℕ, List}
 use Rattle.ssf_model.specs.Reaction.{Reaction, Validity, KeepsValid}
 use Rattle.ssf_model.specs.Deliver.{IsModest}
 use Rattle.core_traces.proofs.Keeps.{on_own, leads_on, leads_safe, gives_up}

@@ -2,13 +2,13 @@
 -- another.
 use Rattle.std.proofs.Common.{◌≡◌, ℕ, ◌+◌, ◌<◌, Bool, true, false, cond, List, [], ◌∷◌, ◌++◌, length, take, map, Some, slice_get, get_or, option_map, refl, sym, ap, ◌∙◌, inl, inr, arith, add-one, append_assoc, length-append, nat_lt}
 use Rattle.std.specs.Prelude.{max}
-use Rattle.std.specs.List.{filter, fold, sum_by, flat_map}
+use Rattle.std.specs.List.{filter, fold, sum_by}
 use Rattle.std.proofs.lemmas.List.{append-nil}
 use Rattle.std.proofs.lemmas.List.Elements.{filter-append}
 use Rattle.std.proofs.lemmas.List.Sums.{fold-append, sum_by-append, sum_by-cons}
 use Rattle.std.proofs.lemmas.Grind.{flat_map-append}
 use Rattle.std.proofs.lemmas.Option.{get_or_from_slice_get, slice_get_within, slice_get_read, slice_get-map}
-use Rattle.std.proofs.Math.Seq.{take-length, take-suc}
+use Rattle.std.proofs.Math.Seq.{take-suc}
 use Rattle.event_order.specs.declared.key.Key.{Key}
 use Rattle.event_order.specs.Order.{comes_before}
 use Rattle.event_order.specs.Pending.{put, put_all}
@@ -17,7 +17,7 @@ use Rattle.ssf_model.specs.declared.event.Entry.{Entry}
 use Rattle.ssf_model.specs.declared.event.Line.{Line}
 use Rattle.trace_writer.specs.declared.total.Total.{Total}
 use Rattle.trace_writer.specs.Merging.{entries_before, in_key_order, merged}
-use Rattle.trace_writer.specs.Report.{capped, is_sent, is_dropped, is_datagram, is_delivery, bytes_of, sums, total_of, lines_of, last_time, Totals, totals_of, events_of}
+use Rattle.trace_writer.specs.Report.{capped, is_sent, is_dropped, is_datagram, is_delivery, bytes_of, total_of, lines_of, Totals, totals_of, events_of}
 use Rattle.trace_writer.specs.Tallying.{with_entry}
 use Rattle.trace_writer.proofs.Tallies.{with_entry-totals_of}
 use Rattle.timeline.specs.View.{TimelineOf}

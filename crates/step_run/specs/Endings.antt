@@ -1,6 +1,6 @@
 -- How a run by steps of timelines ends, and what was written then. `budget` is the most events that a timeline executes, and
 -- the run is that of the plan under each cut that drops no round up to it.
-use Rattle.std.specs.Prelude.{ℕ, ◌≡◌, ◌+◌, ◌≤◌, ◌⊎◌, List, length, Option}
+use Rattle.std.specs.Prelude.{ℕ, ◌+◌, ◌≤◌, ◌⊎◌, List, length, Option}
 use Rattle.event_order.specs.Machine.{within}
 use Rattle.sim_base.specs.Outside.{Appends, AppendsPrefix}
 use Rattle.ssf_model.specs.declared.event.Event.{Event}

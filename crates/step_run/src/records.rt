@@ -42,7 +42,10 @@ impl<'a> Histories for Table<'a> {
 }
 
 /// The histories of these timelines.
-fn table_of<'a, B: Behaviour>(alloc: Global, timelines: &'a [Timeline<B>]) -> Result<Table<'a>, Memory>
+fn table_of<'a, B: Behaviour>(
+    alloc: Global,
+    timelines: &'a [Timeline<B>],
+) -> Result<Table<'a>, Memory>
     ensures { IfOk result (λ table. table.histories.items ≡ map history_in timelines.now) }
 {
     let mut histories = Vec::new(alloc);

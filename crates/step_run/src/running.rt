@@ -175,9 +175,7 @@ fn run_prepared<B: Behaviour, K: Sink>(
         records,
     } = prepared;
     match Core::new(alloc, plan, alignment, classes, order.until, order.budget) {
-        Ok(mut core) => {
-            go_on(alloc, &mut core, records, names, order, before, tally, out)
-        }
+        Ok(mut core) => { go_on(alloc, &mut core, records, names, order, before, tally, out) }
         Err(Memory) => StepEnd::Memory,
     }
 }
@@ -203,7 +201,16 @@ fn go_on<B: Behaviour, K: Sink>(
 {
     let mut used = 0;
     loop {
-        match advance(alloc, core, records, names, &order.schedule[used..], order.until, tally, out) {
+        match advance(
+            alloc,
+            core,
+            records,
+            names,
+            &order.schedule[used..],
+            order.until,
+            tally,
+            out,
+        ) {
             Advanced::Further(tried) => used += tried,
             Advanced::Whole => return write_end(core, records, order.until, before, out),
             Advanced::Ended(end) => return end,

@@ -1,9 +1,8 @@
-use Rattle.std.proofs.Common.{◌≡◌, ◌≤◌, ◌+◌, ℕ, length, sym, ap, ◌∙◌, subst, arith, lit≤, Err}
+use Rattle.std.proofs.Common.{◌≡◌, ◌≤◌, ◌+◌, length, sym, ap, ◌∙◌, subst, lit≤, Err}
 use Rattle.trace_writer.specs.Merging.{HasRoom}
 use Rattle.trace_writer.specs.declared.merging.MergeFault.TheVariants.{WriteFault, Memory as NoRoom}
 use Rattle.core_rules.specs.Cores.{CoreView}
 use Rattle.core_rules.specs.Reading.{safe_bound_in}
-use Rattle.core_traces.specs.Kept.{histories_of}
 use Rattle.sync_core.specs.declared.driving.DriveEnd.TheVariants as drive
 use Rattle.sync_core.specs.declared.driving.Driven.{Driven}
 use Rattle.step_run.specs.Telling.{Told}
@@ -37,7 +36,7 @@ write_piece-requires-clause-histories g c κs within =
     let mo = g.met.B.Behaviour.modest in
     let core = c.args.core.now in
     let mid = c.drive_some-driven.new.self in
-    let driven : AreDriven v ca r core mid = record { steps = c.drive_some-driven.ensures.steps; onward = c.drive_some-driven.ensures.onward; } in
+    let driven : AreDriven v ca r core mid = record { steps = c.drive_some-driven.ensures.steps; onward = c.drive_some-driven.ensures.onward } in
     let go = c.requires.goes_on in
     can_merge v ca r c.args.names.now c.args.until go.task go.given core mid go.from go.keeps driven (keep_law v ca r so mo) (can_law v ca r so mo)
 
@@ -50,7 +49,7 @@ returns-in-Ok-clause-advanced g c = λ task first given under.
     let mo = g.met.B.Behaviour.modest in
     let core = c.args.core.now in
     let mid = c.drive_some-driven.new.self in
-    let driven : AreDriven v ca r core mid = record { steps = c.drive_some-driven.ensures.steps; onward = c.drive_some-driven.ensures.onward; } in
+    let driven : AreDriven v ca r core mid = record { steps = c.drive_some-driven.ensures.steps; onward = c.drive_some-driven.ensures.onward } in
     let outcome_is : c.outcome_of.result ≡ outcome c.drive_some-driven.result c.write_piece.new.self.below =
     c.outcome_of.ensures ∙ ap (λ f. outcome c.drive_some-driven.result f) c.below.ensures in
     let now : Output = record { held = g.K.Sink.held c.args.out.now; tally = c.args.tally.now } in
@@ -59,7 +58,7 @@ returns-in-Ok-clause-advanced g c = λ task first given under.
     (has_advanced v ca r c.args.names.now c.args.until task given core mid c.args.records.now first now under driven
     (keep_law v ca r so mo) (safe_law v ca r so mo) (next_law v ca r so mo) (give_law v ca r so mo) (whole_law v ca r so mo) (few_law v ca r so mo) (windows_law v ca r so mo) (budget_law v ca r so mo)
     c.write_piece.new.core c.write_piece.new.self then
-    (record { given_up = c.in-Ok.ensures.given_up; at = c.in-Ok.ensures.bound; counted = c.in-Ok.ensures.count; text = c.in-Ok.ensures.text; tallied = c.in-Ok.ensures.tally; })
+    (record { given_up = c.in-Ok.ensures.given_up; at = c.in-Ok.ensures.bound; counted = c.in-Ok.ensures.count; text = c.in-Ok.ensures.text; tallied = c.in-Ok.ensures.tally })
     c.drive_some-driven.result c.drive_some-driven.ensures.finished c.drive_some-driven.ensures.over)
 
 pub returns-in-Ok-clause-goes_on : goal.returns-in-Ok-clause-goes_on
@@ -71,7 +70,7 @@ returns-in-Ok-clause-goes_on g c =
     let mo = g.met.B.Behaviour.modest in
     let core = c.args.core.now in
     let mid = c.drive_some-driven.new.self in
-    let driven : AreDriven v ca r core mid = record { steps = c.drive_some-driven.ensures.steps; onward = c.drive_some-driven.ensures.onward; } in
+    let driven : AreDriven v ca r core mid = record { steps = c.drive_some-driven.ensures.steps; onward = c.drive_some-driven.ensures.onward } in
     let go = c.requires.goes_on in
     let less = keeps_less v ca r c.args.names.now c.args.until go.task go.given core mid go.from go.keeps driven (keep_law v ca r so mo) (safe_law v ca r so mo) (give_law v ca r so mo) in
     let next : GoesOn v ca r c.args.names.now c.args.until c.write_piece.new.core = record {
@@ -126,7 +125,7 @@ returns-in-Err-WriteFault-clause-advanced g c = λ task first given under.
     let mo = g.met.B.Behaviour.modest in
     let core = c.args.core.now in
     let mid = c.drive_some-driven.new.self in
-    let driven : AreDriven v ca r core mid = record { steps = c.drive_some-driven.ensures.steps; onward = c.drive_some-driven.ensures.onward; } in
+    let driven : AreDriven v ca r core mid = record { steps = c.drive_some-driven.ensures.steps; onward = c.drive_some-driven.ensures.onward } in
     let now : Output = record { held = g.K.Sink.held c.args.out.now; tally = c.args.tally.now } in
     let then : Output = record { held = g.K.Sink.held c.write_piece.new.sink; tally = c.write_piece.new.tally } in
     let failed : c.write_piece.result ≡ Err WriteFault = cc in
@@ -150,7 +149,7 @@ returns-in-Err-Memory-clause-advanced g c = λ task first given under.
     let mo = g.met.B.Behaviour.modest in
     let core = c.args.core.now in
     let mid = c.drive_some-driven.new.self in
-    let driven : AreDriven v ca r core mid = record { steps = c.drive_some-driven.ensures.steps; onward = c.drive_some-driven.ensures.onward; } in
+    let driven : AreDriven v ca r core mid = record { steps = c.drive_some-driven.ensures.steps; onward = c.drive_some-driven.ensures.onward } in
     let now : Output = record { held = g.K.Sink.held c.args.out.now; tally = c.args.tally.now } in
     let then : Output = record { held = g.K.Sink.held c.write_piece.new.sink; tally = c.write_piece.new.tally } in
     let short : c.write_piece.result ≡ Err NoRoom = cc in

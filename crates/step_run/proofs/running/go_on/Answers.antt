@@ -1,4 +1,5 @@
-use Rattle.std.proofs.Common.{◌≡◌, ◌≤◌, ℕ, arith}
+use Rattle.std.proofs.Common.{◌-◌, length, drop, arith}
+use Rattle.std.proofs.lemmas.List.{length-take}
 use Rattle.step_run.specs.Going.{Output}
 use Rattle.step_run.proofs.Going.{round_low}
 use Rattle.step_run.proofs.Beginning.{caused_later}
@@ -24,7 +25,10 @@ pub loop-tried-preserved : goal.loop-tried-preserved
 loop-tried-preserved g c = record {
   goes_on = c.in-Further.ensures.goes_on;
   room = c.in-Further.ensures.room;
-  used = (let few = c.in-Further.ensures.used in ?used);
+  used = (let few = c.in-Further.ensures.used in
+      let within = c.loop-tried.invariant.used in
+      let piece = length-take (length c.args.order.now.schedule.now - c.loop-tried.used) (drop c.loop-tried.used c.args.order.now.schedule.now) in
+      omega (arith, few, within, piece));
   faults = (let before = c.loop-tried.invariant.faults in let here = c.advance.ensures.never_falls in omega (arith, before, here));
   under = λ task given start. c.in-Further.ensures.advanced task (record { held = g.K.Sink.held c.args.out.now; tally = c.args.tally.now }) given (c.loop-tried.invariant.under task given start);
 }

@@ -1,5 +1,5 @@
 -- The run is under way: what was executed is written up to a time, and from it on kept.
-use Rattle.std.proofs.Common.{◌≡◌, ◌+◌, ◌-◌, ◌≤◌, ℕ, length}
+use Rattle.std.proofs.Common.{◌+◌, ◌-◌, ◌≤◌, length}
 use Rattle.trace_writer.specs.Merging.{HasRoom}
 use Rattle.step_run.specs.Going.{Task, output, IsGiven, IsUnderWay, GoesOn}
 use Rattle.step_run.proofs.running.go_on.Given as goal

@@ -1,9 +1,8 @@
-use Rattle.std.proofs.Common.{◌≡◌, ◌≤◌, ℕ, [], arith, length, refl, sym, ap, ◌∙◌, subst, inl, inr}
+use Rattle.std.proofs.Common.{[], arith, refl, sym, subst, inl, inr}
 use Rattle.sim_base.specs.Outside.{Appends}
 use Rattle.trace_writer.specs.Merging.{HasRoom}
 use Rattle.trace_writer.proofs.Writing.{appends_none}
-use Rattle.step_run.specs.Endings.{IfNotBegun}
-use Rattle.step_run.specs.Going.{Task, Output, IsGiven, IsUnderWay, GoesOn}
+use Rattle.step_run.specs.Going.{Task, Output, IsGiven}
 use Rattle.step_run.proofs.Beginning.{first_goes_on, first_under_way, end_begun}
 use Rattle.step_run.proofs.Laws.{first_law, none_law}
 use Rattle.step_run.proofs.running.run_prepared.Goals as goal
@@ -35,7 +34,7 @@ go_on-requires-clause-goes_on g c κs within =
     let is_first = c.in-Ok.ensures.first c.args.order.now.threshold c.requires.classes in
     let task : Task g.row.B.Denot g.row.B-State.Denot g.row.B-Payload.Denot = record { plan = c.args.plan; nets = c.requires.aligned.0; mode = c.requires.aligned.1; lines = lines; threshold = c.args.order.now.threshold; budget = c.args.order.now.budget } in
     let given : IsGiven (v c.args.plan.behaviour) (ca c.args.plan.behaviour) c.args.names.now c.args.order.now.until task =
-    record { fits = c.requires.plan; aligned = c.requires.aligned.2; few = c.requires.most; in_time = c.requires.until; most = c.requires.budget; named = c.requires.named; } in
+    record { fits = c.requires.plan; aligned = c.requires.aligned.2; few = c.requires.most; in_time = c.requires.until; most = c.requires.budget; named = c.requires.named } in
     first_goes_on v ca re c.args.names.now c.args.order.now.until task given core is_first (first_law v ca re so mo)
 
 pub go_on-requires-clause-room : goal.go_on-requires-clause-room
@@ -55,7 +54,7 @@ returns-in-Ok-clause-ended g c = inr (λ nets mode aligned.
     let is_first = c.in-Ok.ensures.first c.args.order.now.threshold c.requires.classes in
     let task : Task g.row.B.Denot g.row.B-State.Denot g.row.B-Payload.Denot = record { plan = c.args.plan; nets = nets; mode = mode; lines = lines; threshold = c.args.order.now.threshold; budget = c.args.order.now.budget } in
     let given : IsGiven (v c.args.plan.behaviour) (ca c.args.plan.behaviour) c.args.names.now c.args.order.now.until task =
-    record { fits = c.requires.plan; aligned = aligned; few = c.requires.most; in_time = c.requires.until; most = c.requires.budget; named = c.requires.named; } in
+    record { fits = c.requires.plan; aligned = aligned; few = c.requires.most; in_time = c.requires.until; most = c.requires.budget; named = c.requires.named } in
     let first : Output = record { held = g.K.Sink.held c.args.out.now; tally = c.args.tally.now } in
     let ended = c.go_on.ensures.ended task given refl
     (first_under_way v ca re c.args.names.now c.args.order.now.until task given core is_first (first_law v ca re so mo) (none_law v ca re so mo) c.args.prepared.now.records first c.requires.none.0 c.requires.none.1) in
@@ -73,7 +72,7 @@ returns-in-Ok-clause-nothing g c =
     let is_first = c.in-Ok.ensures.first c.args.order.now.threshold c.requires.classes in
     let task : Task g.row.B.Denot g.row.B-State.Denot g.row.B-Payload.Denot = record { plan = c.args.plan; nets = c.requires.aligned.0; mode = c.requires.aligned.1; lines = lines; threshold = c.args.order.now.threshold; budget = c.args.order.now.budget } in
     let given : IsGiven (v c.args.plan.behaviour) (ca c.args.plan.behaviour) c.args.names.now c.args.order.now.until task =
-    record { fits = c.requires.plan; aligned = c.requires.aligned.2; few = c.requires.most; in_time = c.requires.until; most = c.requires.budget; named = c.requires.named; } in
+    record { fits = c.requires.plan; aligned = c.requires.aligned.2; few = c.requires.most; in_time = c.requires.until; most = c.requires.budget; named = c.requires.named } in
     let first : Output = record { held = g.K.Sink.held c.args.out.now; tally = c.args.tally.now } in
     let ended = c.go_on.ensures.ended task given refl
     (first_under_way v ca re c.args.names.now c.args.order.now.until task given core is_first (first_law v ca re so mo) (none_law v ca re so mo) c.args.prepared.now.records first c.requires.none.0 c.requires.none.1) in

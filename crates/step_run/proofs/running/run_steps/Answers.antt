@@ -1,8 +1,6 @@
-use Rattle.std.proofs.Common.{◌≡◌, ◌∙◌, ◌<◌, ◌≤◌, ℕ, List, sym, ap, subst, arith}
-use Rattle.sim_base.specs.Outside.{Appends}
+use Rattle.std.proofs.Common.{◌≡◌, ◌∙◌, ◌<◌, ◌≤◌, ℕ, List, ap, arith}
 use Rattle.ssf_model.specs.Truth.{AreFew}
 use Rattle.alignment.specs.declared.labels.Mode.{Mode}
-use Rattle.alignment.specs.declared.timelines.AlignFault.TheVariants as fault_of
 use Rattle.alignment.specs.Alignment.{IsAlignment, timeline_count}
 use Rattle.alignment.proofs.Lawful.{alignment_one}
 use Rattle.trace_writer.proofs.Writing.{appends_none}
@@ -58,7 +56,7 @@ returns-in-Ok-clause-trace g c =
     let end = c.run_prepared.result in
     let how = c.run_prepared.ensures.ended in
     let aligned = c.in-Ok.ensures.aligned in
-    or_memory end ((nets : List ℕ) (mode : Mode) → IsAlignment c.args.plan nets mode c.in-Ok.prepared.alignment → HasEnded r names until (record { plan = c.args.plan; nets = nets; mode = mode; lines = c.in-Ok.prepared.alignment; threshold = c.args.order.now.threshold; budget = c.args.order.now.budget }) first now end) (λ e. IfFinished e (λ crossed last. IsTraced r c.args.plan names until c.args.order.now.budget first.held now.held first.tally now.tally)) how tt (λ h. end_trace r names until task first now  end (h c.args.nets.now c.args.order.now.mode aligned))
+    or_memory end ((nets : List ℕ) (mode : Mode) → IsAlignment c.args.plan nets mode c.in-Ok.prepared.alignment → HasEnded r names until (record { plan = c.args.plan; nets = nets; mode = mode; lines = c.in-Ok.prepared.alignment; threshold = c.args.order.now.threshold; budget = c.args.order.now.budget }) first now end) (λ e. IfFinished e (λ crossed last. IsTraced r c.args.plan names until c.args.order.now.budget first.held now.held first.tally now.tally)) how tt (λ h. end_trace r names until task first now end (h c.args.nets.now c.args.order.now.mode aligned))
 
 pub returns-in-Ok-clause-few : goal.returns-in-Ok-clause-few
 returns-in-Ok-clause-few g c =
@@ -99,7 +97,7 @@ returns-in-Ok-clause-over g c =
     let end = c.run_prepared.result in
     let how = c.run_prepared.ensures.ended in
     let aligned = c.in-Ok.ensures.aligned in
-    or_memory end ((nets : List ℕ) (mode : Mode) → IsAlignment c.args.plan nets mode c.in-Ok.prepared.alignment → HasEnded r names until (record { plan = c.args.plan; nets = nets; mode = mode; lines = c.in-Ok.prepared.alignment; threshold = c.args.order.now.threshold; budget = c.args.order.now.budget }) first now end) (λ e. IfOverBudget e (λ timeline below. IsWrittenBelow r c.args.plan names until c.args.order.now.budget below first.held now.held)) how tt (λ h. end_over r names until task first now  end (h c.args.nets.now c.args.order.now.mode aligned))
+    or_memory end ((nets : List ℕ) (mode : Mode) → IsAlignment c.args.plan nets mode c.in-Ok.prepared.alignment → HasEnded r names until (record { plan = c.args.plan; nets = nets; mode = mode; lines = c.in-Ok.prepared.alignment; threshold = c.args.order.now.threshold; budget = c.args.order.now.budget }) first now end) (λ e. IfOverBudget e (λ timeline below. IsWrittenBelow r c.args.plan names until c.args.order.now.budget below first.held now.held)) how tt (λ h. end_over r names until task first now end (h c.args.nets.now c.args.order.now.mode aligned))
 
 pub returns-in-Ok-clause-budget_ends : goal.returns-in-Ok-clause-budget_ends
 returns-in-Ok-clause-budget_ends g c =
@@ -126,7 +124,7 @@ returns-in-Ok-clause-memory_below g c =
     let end = c.run_prepared.result in
     let how = c.run_prepared.ensures.ended in
     let aligned = c.in-Ok.ensures.aligned in
-    or_memory end ((nets : List ℕ) (mode : Mode) → IsAlignment c.args.plan nets mode c.in-Ok.prepared.alignment → HasEnded r names until (record { plan = c.args.plan; nets = nets; mode = mode; lines = c.in-Ok.prepared.alignment; threshold = c.args.order.now.threshold; budget = c.args.order.now.budget }) first now end) (λ e. IfMemoryBelow e (λ below. IsWrittenBelow r c.args.plan names until c.args.order.now.budget below first.held now.held)) how tt (λ h. end_memory r names until task first now  end (h c.args.nets.now c.args.order.now.mode aligned))
+    or_memory end ((nets : List ℕ) (mode : Mode) → IsAlignment c.args.plan nets mode c.in-Ok.prepared.alignment → HasEnded r names until (record { plan = c.args.plan; nets = nets; mode = mode; lines = c.in-Ok.prepared.alignment; threshold = c.args.order.now.threshold; budget = c.args.order.now.budget }) first now end) (λ e. IfMemoryBelow e (λ below. IsWrittenBelow r c.args.plan names until c.args.order.now.budget below first.held now.held)) how tt (λ h. end_memory r names until task first now end (h c.args.nets.now c.args.order.now.mode aligned))
 
 pub returns-in-Ok-clause-too_many : goal.returns-in-Ok-clause-too_many
 returns-in-Ok-clause-too_many g c =
@@ -152,7 +150,7 @@ returns-in-Ok-clause-part g c =
     let end = c.run_prepared.result in
     let how = c.run_prepared.ensures.ended in
     let aligned = c.in-Ok.ensures.aligned in
-    or_memory end ((nets : List ℕ) (mode : Mode) → IsAlignment c.args.plan nets mode c.in-Ok.prepared.alignment → HasEnded r names until (record { plan = c.args.plan; nets = nets; mode = mode; lines = c.in-Ok.prepared.alignment; threshold = c.args.order.now.threshold; budget = c.args.order.now.budget }) first now end) (λ e. IfWrite e (IsPartWritten r c.args.plan names until c.args.order.now.budget first.held now.held)) how tt (λ h. end_part r names until task first now  end (h c.args.nets.now c.args.order.now.mode aligned))
+    or_memory end ((nets : List ℕ) (mode : Mode) → IsAlignment c.args.plan nets mode c.in-Ok.prepared.alignment → HasEnded r names until (record { plan = c.args.plan; nets = nets; mode = mode; lines = c.in-Ok.prepared.alignment; threshold = c.args.order.now.threshold; budget = c.args.order.now.budget }) first now end) (λ e. IfWrite e (IsPartWritten r c.args.plan names until c.args.order.now.budget first.held now.held)) how tt (λ h. end_part r names until task first now end (h c.args.nets.now c.args.order.now.mode aligned))
 
 pub returns-in-Ok-clause-nothing : goal.returns-in-Ok-clause-nothing
 returns-in-Ok-clause-nothing g c = c.run_prepared.ensures.nothing
