@@ -35,6 +35,18 @@ module _ {B S P : Type 0} where
     pub history : t.history ≡ old.history ++ more
     pub executed : t.executed ≡ old.executed + length more
 
+module _ {B S P : Type 0} (key : CoreView B S P) where
+  -- the words have the numbers of timeline i: what it has posted and taken, and how much it has executed
+  pub record HasCounts (f : ℕ → ℕ) (i : ℕ) (t : TimelineOf B S P) : Type 0 where
+    pub posted : (k : ℕ) (end : CrossEnd) → slice_get key.ends k ≡ Some end → end.sender ≡ i → f (posted_word key k) ≡ posted_of t.out_ends end.channel
+    pub taken : (k : ℕ) (end : CrossEnd) → slice_get key.ends k ≡ Some end → end.receiver ≡ i → f (taken_word key k) ≡ taken_of t.in_ends end.channel
+    pub done : f (done_word key i) ≡ t.executed
+
+  -- the words have the numbers of the mail of timeline i: what was posted and taken
+  pub record IsMailBy (f : ℕ → ℕ) (i : ℕ) (m : Mails P) : Type 0 where
+    pub posted : (k : ℕ) (end : CrossEnd) → slice_get key.ends k ≡ Some end → end.receiver ≡ i → f (posted_word key k) ≡ posted_to (mail_at m end.channel)
+    pub taken : (k : ℕ) (end : CrossEnd) → slice_get key.ends k ≡ Some end → end.receiver ≡ i → f (taken_word key k) ≡ (mail_at m end.channel).taken
+
 module _ {B S P : Type 0} (valid : Validity S) (carried : P → Type 0) (r : Reaction S P) (key : CoreView B S P) where
   -- timeline i, at some moment of the run
   pub record IsTimelineAt (i : ℕ) (t : TimelineOf B S P) : Type 0 where
@@ -64,21 +76,10 @@ module _ {B S P : Type 0} (valid : Validity S) (carried : P → Type 0) (r : Rea
 
   -- ---- by the counts
 
-  -- the words have the numbers of timeline i: what it has posted and taken, and how much it has executed
-  pub record HasCounts (f : ℕ → ℕ) (i : ℕ) (t : TimelineOf B S P) : Type 0 where
-    pub posted : (k : ℕ) (end : CrossEnd) → slice_get key.ends k ≡ Some end → end.sender ≡ i → f (posted_word key k) ≡ posted_of t.out_ends end.channel
-    pub taken : (k : ℕ) (end : CrossEnd) → slice_get key.ends k ≡ Some end → end.receiver ≡ i → f (taken_word key k) ≡ taken_of t.in_ends end.channel
-    pub done : f (done_word key i) ≡ t.executed
-
-  -- and the window that it entered is that of the round word or one before
+  -- timeline i: the words have its numbers, and the window that it entered is that of the round word or one before
   pub record IsTimelineBy (f : ℕ → ℕ) (i : ℕ) (t : TimelineOf B S P) : Type 0 where
-    pub counts : HasCounts f i t
+    pub counts : HasCounts key f i t
     pub entered : OfItsRuns valid carried r key (λ plan line s. IsWindowUpTo s (f (round_word key)) t.entered)
-
-  -- the words have the numbers of the mail of timeline i: what was posted and taken
-  pub record IsMailBy (f : ℕ → ℕ) (i : ℕ) (m : Mails P) : Type 0 where
-    pub posted : (k : ℕ) (end : CrossEnd) → slice_get key.ends k ≡ Some end → end.receiver ≡ i → f (posted_word key k) ≡ posted_to (mail_at m end.channel)
-    pub taken : (k : ℕ) (end : CrossEnd) → slice_get key.ends k ≡ Some end → end.receiver ≡ i → f (taken_word key k) ≡ (mail_at m end.channel).taken
 
   -- the round word is the barrier's round, and the done word of each timeline that has reported covers its events before the window
   pub record IsBarrierBy (f : ℕ → ℕ) (b : BarrierFields) : Type 0 where
@@ -88,7 +89,7 @@ module _ {B S P : Type 0} (valid : Validity S) (carried : P → Type 0) (r : Rea
   -- what the value at the place p owes to the counts
   abbrev pub Owes : (ℕ → ℕ) → ℕ → ShareOf B S P → Type 0
   Owes f p (timeline t) = p < count_of key → IsTimelineBy f p t
-  Owes f p (mail m) = (i : ℕ) → i < count_of key → p ≡ mail_place key i → IsMailBy f i m
+  Owes f p (mail m) = (i : ℕ) → i < count_of key → p ≡ mail_place key i → IsMailBy key f i m
   Owes f p (barrier b) = p ≡ barrier_place key → IsBarrierBy f b
 
   -- among the counts: each done word covers the events of its timeline before the window before that of the round word
