@@ -1,6 +1,6 @@
 -- What values owe, and what marks say of them, meets the laws of a tenant.
-use Rattle.std.specs.Prelude.{ℕ, suc, ◌≡◌, ◌≢◌, ◌⊎◌, ◌<◌, ◌≤◌, ◌==◌, true, cond, Some, slice_get}
-use Rattle.std.proofs.Common.{refl, sym, ap, ◌∙◌, subst, inl, inr, ⊎_elim, arith, eq-eqb, ne_eqb, le_of_eq}
+use Rattle.std.specs.Prelude.{ℕ, suc, ◌≡◌, ◌⊎◌, ◌<◌, ◌≤◌, true, cond}
+use Rattle.std.proofs.Common.{sym, ap, ◌∙◌, subst, inl, inr, ⊎_elim, arith, eq-eqb, ne_eqb, le_of_eq}
 use mathlib.Core.Logic.{dite}
 use native.Mathlib.Decide.{ℕ_discrete}
 use Rattle.ssf_model.specs.Reaction.{Reaction, Validity}
@@ -9,13 +9,11 @@ use Rattle.turn_table.specs.Changes.{put}
 use Rattle.turn_table.specs.Shapes.{Speaks, is_cleared}
 use Rattle.timeline.specs.View.{TimelineOf}
 use Rattle.appointments.specs.Mails.{Mails}
-use Rattle.barrier_window.specs.BarrierFields.{BarrierFields}
-use Rattle.sync_steps.specs.Sounds.{has_least}
 use Rattle.core_rules.specs.Cores.{CoreView}
-use Rattle.share_rules.specs.Places.{ShareOf, count_of, mail_place, barrier_place, posted_word, taken_word, done_word, round_word, shape_of}
+use Rattle.share_rules.specs.Places.{ShareOf, count_of, mail_place, posted_word, taken_word, done_word, round_word, shape_of}
 use Rattle.share_rules.specs.Places.ShareOf.{timeline, mail, barrier}
-use Rattle.share_rules.specs.Runs.{Covers, IsWindowUpTo, OfItsRuns}
-use Rattle.share_rules.specs.Home.{HasCounts, IsTimelineBy, IsMailBy, IsBarrierBy, Owes, Keeps, Marked}
+use Rattle.share_rules.specs.Runs.{Covers, IsWindowUpTo}
+use Rattle.share_rules.specs.Home.{HasCounts, IsMailBy, Owes, Keeps, Marked}
 use Rattle.share_rules.specs.WordLaws.{posted_of_sender, posted_of_mail, taken_of_mail, taken_of_receiver, done_of_timeline, round_of_barrier, round_is_cleared, done_is_cleared}
 
 pub up_to_more : {X E : Type 0} (s : Scene X E) (k n x : ℕ) → k ≤ n → IsWindowUpTo s k x → IsWindowUpTo s n x

@@ -4,8 +4,6 @@ use Rattle.std.specs.List.{range_with_len}
 use Rattle.turn_table.specs.declared.view.Shape.{Shape}
 use Rattle.plan_shares.specs.declared.crosses.CrossEnd.{CrossEnd}
 use Rattle.timeline.specs.View.{TimelineOf}
-use Rattle.timeline.specs.Holding.{taken_of}
-use Rattle.timeline.specs.Lines.{posted_of}
 use Rattle.appointments.specs.Mails.{Mails}
 use Rattle.barrier_window.specs.BarrierFields.{BarrierFields}
 use Rattle.core_rules.specs.Cores.{CoreView}
