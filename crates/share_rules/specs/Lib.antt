@@ -1,0 +1,5 @@
+pub mod Places
+pub mod Runs
+pub mod Home
+pub mod WordLaws
+pub mod HomeLaws

@@ -1,0 +1,50 @@
+//! Laws of what lies at home: `key` are all parts at the moment when they were shared out.
+
+ghost use Rattle.std.specs.Prelude.{◌≡◌, ◌⊎◌, ℕ, suc, ◌+◌, ◌<◌, ◌≤◌, true, length, Some, slice_get, slice_index};
+ghost use Rattle.turn_table.specs.Changes.{put};
+ghost use Rattle.turn_table.specs.Shapes.{words_in, spoken, Speaks, is_cleared};
+ghost use Rattle.plan_shares.specs.declared.crosses.CrossEnd.{CrossEnd as CrossEndValue};
+ghost use Rattle.timeline.specs.View.{TimelineOf};
+ghost use Rattle.sync_steps.specs.Between.{HasItsCrosses};
+ghost use Rattle.core_rules.specs.Cores.{CoreView, IsCoreOfRun};
+ghost use Rattle.share_rules.specs.Places.{ShareOf, count_of, barrier_place, posted_word, taken_word, done_word, round_word, posted_places, taken_places, twice, shape_of, shares_of, counts_of};
+ghost use Rattle.share_rules.specs.Home.{Owes, Keeps, Marked, AreAtHome};
+
+use ssf_model::Behaviour;
+
+/// What values owe and what marks say of them meets the laws of a tenant of a table of turns.
+pub fn shares_are_tenants<B: Behaviour>()
+    ensures stays { (b : B) (key : CoreView B B.State B.Payload) (f g : ℕ → ℕ) (p : ℕ) (x : ShareOf B B.State B.Payload)
+        → ((c : ℕ) → Speaks (shape_of key) c p → f c ≡ g c) → ((c : ℕ) → f c ≤ g c)
+        → Owes (B.valid b) (B.carried b) (B.reaction b) key f p x → Owes (B.valid b) (B.carried b) (B.reaction b) key g p x }
+    ensures forgets { (b : B) (key : CoreView B B.State B.Payload) (m n : ℕ → ℕ) (p : ℕ) (x : ShareOf B B.State B.Payload)
+        → ((c : ℕ) → (n c ≡ 0) ⊎ (n c ≡ m c))
+        → Marked (B.valid b) (B.carried b) (B.reaction b) key m p x → Marked (B.valid b) (B.carried b) (B.reaction b) key n p x }
+    ensures cleared { (b : B) (key : CoreView B B.State B.Payload) (m : ℕ → ℕ) (p : ℕ) (x : ShareOf B B.State B.Payload)
+        → ((c : ℕ) → is_cleared (shape_of key) p c ≡ true → m c ≡ 0) → Marked (B.valid b) (B.carried b) (B.reaction b) key m p x }
+    ensures marks { (b : B) (key : CoreView B B.State B.Payload) (f m : ℕ → ℕ) (p : ℕ) (x : ShareOf B B.State B.Payload) (c : ℕ)
+        → Keeps (B.valid b) (B.carried b) (B.reaction b) key f → Owes (B.valid b) (B.carried b) (B.reaction b) key f p x
+        → Marked (B.valid b) (B.carried b) (B.reaction b) key m p x → Marked (B.valid b) (B.carried b) (B.reaction b) key (put m c (suc (f c))) p x }
+{}
+
+/// Of which places the count words speak: the posted word of a channel of its sender and its receiver's
+/// mail (`posted`), the taken word of that mail and its receiver (`taken`), a done word of its timeline
+/// (`done`), and the round word of the barrier (`round`). There are no others (`all`).
+pub fn words_speak_of_their_places<B: Behaviour>()
+    ensures posted { (key : CoreView B B.State B.Payload) (k : ℕ) (end : CrossEndValue) → slice_get key.ends k ≡ Some end
+        → spoken (shape_of key) (posted_word key k) ≡ posted_places key end }
+    ensures taken { (key : CoreView B B.State B.Payload) (k : ℕ) (end : CrossEndValue) → slice_get key.ends k ≡ Some end
+        → spoken (shape_of key) (taken_word key k) ≡ taken_places key end }
+    ensures done { (key : CoreView B B.State B.Payload) (i : ℕ) → i < count_of key → spoken (shape_of key) (done_word key i) ≡ twice i }
+    ensures round { (key : CoreView B B.State B.Payload) → spoken (shape_of key) (round_word key) ≡ twice (barrier_place key) }
+    ensures all { (key : CoreView B B.State B.Payload) → words_in (shape_of key) ≡ round_word key + 1 }
+{}
+
+/// The parts of a run are at home as they are, where each timeline's ends are those of its mappings, with
+/// their own numbers in the count words (`home`), of which there are as many as the shape has (`counts`).
+pub fn parts_of_a_run_are_at_home<B: Behaviour>()
+    ensures counts { (core : CoreView B B.State B.Payload) → length (counts_of core) ≡ words_in (shape_of core) }
+    ensures home { (b : B) (core : CoreView B B.State B.Payload) → IsCoreOfRun (B.valid b) (B.carried b) (B.reaction b) core
+        → ((i : ℕ) (t : TimelineOf B B.State B.Payload) → slice_get core.timelines i ≡ Some t → HasItsCrosses t)
+        → AreAtHome (B.valid b) (B.carried b) (B.reaction b) core (λ c. slice_index (counts_of core) c) (shares_of core) }
+{}

@@ -1,0 +1,10 @@
+//! What lies at home in a table of turns where the parts of a run are shared out to workers: the
+//! timelines, their mails and the barrier.
+//!
+//! All is said on data (`specs/`): `Places.antt` has the places and the count words, `Runs.antt` facts
+//! on the runs for which all parts were sound when the table was made, and `Home.antt` what is so of
+//! a value at home, by the counts and by the marks of the pass that holds its turn. The laws are the
+//! contracts of the functions in [`laws`], which have empty bodies.
+#![tactic(auto)]
+
+pub mod laws;
