@@ -25,7 +25,7 @@ use Rattle.run_health.specs.Joined.{IsFollowing}
 use Rattle.run_health.proofs.OfFitting.{event_follows}
 use Rattle.run_health.proofs.Staying.{valid_along}
 use Rattle.ip_layer.specs.Packets.{PacketFields, IsPacket}
-use Rattle.ip_layer.specs.Forwarding.{has_address}
+use Rattle.ip_layer.specs.Forwarding.{has_address, passed_on}
 use Rattle.tcp_rules.specs.Servers.{ServerFields, accepted, server_segment, server_timeout}
 use Rattle.tcp_rules.specs.Sessions.{End, Client as ClientEnd, Server, accepting, at_segment, at_timeout, state_of}
 use Rattle.tcp_rules.specs.Limits.{IsEnd}
@@ -140,10 +140,10 @@ honest_at : (came : Sockets → List SegmentFields) (rows : HostRows) (now : ℕ
 honest_at came rows now packet traced = record {
   heard = λ x segment is same h.
       let there : (x.sockets.peer ≡ 0) ⊎ Among segment (came x.sockets) =
-      subst (λ (ends : Sockets). (ends.peer ≡ 0) ⊎ Among segment (came ends)) (sym (sockets_same x.sockets (sockets_of packet) same)) (traced segment is) in
+      subst (λ (ends : Sockets). (ends.peer ≡ 0) ⊎ Among segment (came ends)) (sym (sockets_same x.sockets (sockets_of packet) same)) (traced.from segment is) in
       record { holds = heard_end came x.sockets x.session segment now there h.holds; waits = heard_waits x.session segment now h.waits };
   accepted = λ number segment is syn.
-      record { holds = accepted_end came (sockets_of packet) rows segment now syn (traced segment is); waits = accepted_waits rows segment now };
+      record { holds = accepted_end came (sockets_of packet) rows segment now syn (traced.from segment is); waits = accepted_waits rows segment now };
 }
 
 -- ---- all processes that an event wakes
@@ -209,11 +209,18 @@ module _ {B : Type 0} (plan : Plan B HostFields PacketFields) (until : ℕ) (in_
       let origin = event_writes plan until in_time fits kept (came j) j by is along.writer along.at traced along.mapping.out_channel along.delay packet along.written in
       subst (λ (kind : Kind PacketFields). IsTracedKind (came n) kind) (sym along.kind)
       (elim origin [
-        | inl own ↦ λ segment brings. inr (came_later (suc j) n (sockets_of packet) segment (omega (arith, before)) (own_came j by along.writer along.mapping.out_channel along.delay packet segment is along.at own.0 own.1 along.written brings))
-        | inr old ↦ λ segment brings. elim (old segment brings) [
-          | inl none ↦ inl none
-          | inr among ↦ inr (came_later j n (sockets_of packet) segment (omega (arith, before)) among)
-        ]
+        | inl own ↦
+            let made = own.1 in record {
+              low = omega (arith, made);
+              from = λ segment brings. inr (came_later (suc j) n (sockets_of packet) segment (omega (arith, before)) (own_came j by along.writer along.mapping.out_channel along.delay packet segment is along.at own.0 own.1 along.written brings));
+            }
+        | inr old ↦ record {
+          low = old.low;
+          from = λ segment brings. elim (old.from segment brings) [
+            | inl none ↦ inl none
+            | inr among ↦ inr (came_later j n (sockets_of packet) segment (omega (arith, before)) among)
+          ];
+        }
       ])
   along_traced j n by d before is traced (inr wait) = subst (λ (kind : Kind PacketFields). IsTracedKind (came n) kind) (sym wait.kind) tt
 
@@ -227,6 +234,12 @@ module _ {B : Type 0} (plan : Plan B HostFields PacketFields) (until : ℕ) (in_
 
   traced : (n : ℕ) (e : Event PacketFields) → run_event host_reaction plan until kept n ≡ Some e → IsTracedKind (came n) e.kind
   traced n e is = traced_below (suc n) n e (omega arith) is
+
+  pub lower_when_passed_on : (n : ℕ) (e : Event PacketFields) (channel : ℕ) (packet : PacketFields) → run_event host_reaction plan until kept n ≡ Some e → e.kind ≡ Message channel packet
+      → (passed_on packet).ttl < 64
+  lower_when_passed_on n e channel packet is brings =
+      let here : IsTraced (came n) packet = subst (λ (kind : Kind PacketFields). IsTracedKind (came n) kind) brings (traced n e is) in
+      let low = here.low in omega (arith, low)
 
   kind_kept : (n : ℕ) (rows : HostRows) (now : ℕ) (kind : Kind PacketFields) → IsTracedKind (came n) kind → IsKeptKind rows (IsHonest (came n)) now kind
   kind_kept n rows now Begin h = tt

@@ -28,7 +28,7 @@ use Rattle.run_health.proofs.Delivers.{AdmitsFrom, admits_from}
 use Rattle.run_health.proofs.Healths.{own, given, carries}
 use Rattle.run_health.proofs.Along.{placed}
 use Rattle.ip_layer.specs.Packets.{PacketFields, IsPacket}
-use Rattle.ip_layer.specs.Forwarding.{has_address}
+use Rattle.ip_layer.specs.Forwarding.{has_address, passed_on}
 use Rattle.host_rules.specs.declared.rows.HostRows.{HostRows}
 use Rattle.host_rules.specs.declared.sockets.Sockets.{Sockets}
 use Rattle.host_rules.specs.Hosts.{HostFields}
@@ -59,9 +59,10 @@ goes_itself packet made = rw (
 
 -- ---- one event
 
--- a packet has the source 0, or its segment is among those that were sent to its ends
-abbrev pub IsTraced : (Sockets → List SegmentFields) → PacketFields → Type 0
-IsTraced came packet = (segment : SegmentFields) → packet.segment ≡ Some segment → (packet.src ≡ 0) ⊎ Among segment (came (sockets_of packet))
+-- a packet has no more time to live than it was made with, and has the source 0, or its segment is among those that were sent to its ends
+pub record IsTraced (came : Sockets → List SegmentFields) (packet : PacketFields) : Type 0 where
+  pub low : packet.ttl ≤ 64
+  pub from : (segment : SegmentFields) → packet.segment ≡ Some segment → (packet.src ≡ 0) ⊎ Among segment (came (sockets_of packet))
 
 abbrev pub IsTracedKind : (Sockets → List SegmentFields) → Kind PacketFields → Type 0
 IsTracedKind came Begin = Unit {0}
@@ -176,9 +177,12 @@ module _ (now : ℕ) (in_time : now ≤ LatestTime) (kind : Kind PacketFields) (
 
 own_cases : (rows : HostRows) (came : Sockets → List SegmentFields) (packet : PacketFields) → IsOwn rows packet → IsTracedOrOwn rows came packet
 own_cases rows came packet is = elim (test_cases (nat_eq packet.src 0)) [
-  | inl t ↦ inr (λ segment e. inl (eqb-true packet.src 0 t))
+  | inl t ↦ let made = is.1 in inr (record { low = omega (arith, made); from = λ segment e. inl (eqb-true packet.src 0 t) })
   | inr f ↦ inl (let h : (false || has_address (own_addresses rows) packet.src) ≡ true = rw f at is.0 in h, is.1)
 ]
+
+traced_on : (came : Sockets → List SegmentFields) (packet : PacketFields) → IsTraced came packet → IsTraced came (passed_on packet)
+traced_on came packet traced = let low = traced.low in record { low = omega (arith, low); from = traced.from }
 
 kind_cases : (rows : HostRows) (came : Sockets → List SegmentFields) (kind : Kind PacketFields) (packet : PacketFields) → IsTracedKind came kind → IsFromKind rows kind packet → IsTracedOrOwn rows came packet
 kind_cases rows came Begin packet traced (inl own) = own_cases rows came packet own
@@ -186,7 +190,7 @@ kind_cases rows came Begin packet traced (inr passed) = absurd passed
 kind_cases rows came (Timer process ticket) packet traced (inl own) = own_cases rows came packet own
 kind_cases rows came (Timer process ticket) packet traced (inr passed) = absurd passed
 kind_cases rows came (Message channel q) packet traced (inl own) = own_cases rows came packet own
-kind_cases rows came (Message channel q) packet traced (inr passed) = inr (subst (λ (p : PacketFields). IsTraced came p) (sym passed) traced)
+kind_cases rows came (Message channel q) packet traced (inr passed) = inr (subst (λ (p : PacketFields). IsTraced came p) (sym passed) (traced_on came q traced))
 
 same_entity : {T : Type 0} (o : Option T) (x y : T) → o ≡ Some x → o ≡ Some y → x ≡ y
 same_entity o x y e f = let g : Some x ≡ Some y = sym e ∙ f in cc

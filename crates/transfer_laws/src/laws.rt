@@ -1,14 +1,17 @@
 //! The laws: contracts of functions with empty bodies.
 
-ghost use Rattle.std.specs.Prelude.{◌≡◌, ◌<◌, ◌≤◌, ◌+◌, ℕ, Bool};
+ghost use Rattle.std.specs.Prelude.{◌≡◌, ◌<◌, ◌≤◌, ◌+◌, ℕ, Bool, Some};
 ghost use Rattle.event_order.specs.declared.key.Key.{Key as KeyValue};
 ghost use Rattle.sim_base.specs.SegmentFields.{SegmentFields};
 ghost use Rattle.sim_base.specs.declared.records.TcpConfig.{TcpConfig};
 ghost use Rattle.ssf_model.specs.declared.plan.Plan.{Plan};
+ghost use Rattle.ssf_model.specs.declared.event.Event.{Event};
+ghost use Rattle.ssf_model.specs.declared.wait.Kind.TheVariants.{Message};
 ghost use Rattle.ssf_model.specs.declared.wait.Wake.{Wake};
 ghost use Rattle.ssf_model.specs.Reaction.{Each, LatestTime};
-ghost use Rattle.ssf_model.specs.Run.{Fits};
+ghost use Rattle.ssf_model.specs.Run.{Fits, run_event};
 ghost use Rattle.ip_layer.specs.Packets.{PacketFields, IsPacket};
+ghost use Rattle.ip_layer.specs.Forwarding.{passed_on};
 ghost use Rattle.tcp_rules.specs.Servers.{ServerFields, accepted, server_segment, server_timeout};
 ghost use Rattle.tcp_rules.specs.Transfers.{LiesAmong};
 ghost use Rattle.host_rules.specs.Hosts.{EntryFields, HostFields};
@@ -42,6 +45,15 @@ pub fn servers_deliver_without_gaps<B>()
     ensures { (plan : Plan B HostFields PacketFields) (until : ℕ) (kept : KeyValue → Bool)
         → Fits IsHost IsPacket plan → IsFresh plan → until ≤ LatestTime
         → (n : ℕ) (x : EntryFields) (server : ServerFields) → IsServing plan until kept n x server → WaitsAfter server.state server }
+{}
+
+/// In these runs a packet that is passed on has less time to live than the 64 with which packets are
+/// made: what counts as sent to a server was made by the host that wrote it.
+pub fn packets_passed_on_have_less_time<B>()
+    ensures { (plan : Plan B HostFields PacketFields) (until : ℕ) (kept : KeyValue → Bool)
+        → Fits IsHost IsPacket plan → IsFresh plan → until ≤ LatestTime
+        → (n : ℕ) (event : Event PacketFields) (channel : ℕ) (came : PacketFields)
+        → run_event host_reaction plan until kept n ≡ Some event → event.kind ≡ Message channel came → (passed_on came).ttl < 64 }
 {}
 
 /// A host sends segments only between the ends of its sessions: each packet that it writes is the one
