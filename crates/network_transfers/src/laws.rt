@@ -34,7 +34,7 @@ pub fn plans_fit<B>()
 /// In every run of the plan of a network without a fault, up to each time and under each cut: where a
 /// server's peer has an address other than 0, each position that the server has delivered lies in a
 /// segment that the one host of that address sent before, from the peer's port to the server's own
-/// address and port, and so does the SYN right after which these positions begin.
+/// address and port, and that host sent the SYN right after which these positions begin.
 pub fn servers_deliver_what_peers_sent<B>()
     ensures delivered { (behaviour : B) (network : Network) (plan : Plan B HostFields PacketFields) (until : ℕ) (kept : KeyValue → Bool)
         → IsNetwork network → first_fault network ≡ None → IsNetBuilt behaviour network plan → until ≤ LatestTime

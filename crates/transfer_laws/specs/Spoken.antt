@@ -16,13 +16,13 @@ pub record GoesOut (ends : Sockets) (packet : PacketFields) : Type 0 where
   pub destination : packet.dst ≡ ends.peer
   pub destination_port : packet.dst_port ≡ ends.peer_port
 
--- the ends of a session that the packet that woke the process may open
+-- the ends between which the packet came that woke the process: those of a session that it may open
 abbrev pub AreOpenedBy : Wake PacketFields → Sockets → Type 0
 AreOpenedBy Begin ends = ⊥
 AreOpenedBy Timer ends = ⊥
 AreOpenedBy (Message channel came) ends = ends ≡ sockets_of came
 
--- the ends of a session of the host, of one that the packet opens, or of a transfer whose port no transfer before it had
+-- the ends of a session of the host, those between which the packet came, or ends with a port that no transfer before had
 abbrev pub AreEndsAt : Stack → Wake PacketFields → Sockets → Type 0
 AreEndsAt s wake ends = ((x : EntryFields) × Among x s.sessions × (x.sockets ≡ ends)) ⊎ (AreOpenedBy wake ends ⊎ (10000 + s.opened ≤ ends.own_port))
 

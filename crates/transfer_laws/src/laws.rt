@@ -25,7 +25,7 @@ ghost use Rattle.transfer_laws.specs.Stretch.{WaitsAfter, HasSyn, told};
 /// In every run of every plan of hosts in which nothing has begun, up to each time and under each cut:
 /// where a server's peer has an address other than 0, each position that the server has delivered lies
 /// in a segment that the host of that address sent before, from the peer's port to the server's own
-/// address and port, and so does the SYN right after which these positions begin.
+/// address and port, and that host sent the SYN right after which these positions begin.
 pub fn servers_deliver_what_peers_sent<B>()
     ensures delivered { (plan : Plan B HostFields PacketFields) (until : ℕ) (kept : KeyValue → Bool)
         → Fits IsHost IsPacket plan → IsFresh plan → until ≤ LatestTime
@@ -56,9 +56,9 @@ pub fn packets_passed_on_have_less_time<B>()
         → run_event host_reaction plan until kept n ≡ Some event → event.kind ≡ Message channel came → (passed_on came).ttl < 64 }
 {}
 
-/// A host sends segments only between the ends of its sessions: each packet that it writes is the one
-/// that came, passed on, or brings no segment, or goes from the own end to the peer's end of a session
-/// that the host has, that the packet that came opens, or that is a transfer with a port of its own.
+/// Between which ends a host sends segments: each packet that it writes is the one that came, passed on,
+/// or brings no segment, or goes from the own end to the peer's end of a session that the host has, or
+/// back between the ends between which the packet came, or from a port that no transfer before had.
 pub fn hosts_send_between_the_ends_of_their_sessions()
     ensures { (s : HostFields) (i now : ℕ) (wake : Wake PacketFields) → Each (Brings (IsBetweenEnds s.stack wake)) (host_reaction s i now wake).writes }
 {}
