@@ -176,7 +176,7 @@ module _ {B S P : Type 0} (valid : Validity S) (carried : P → Type 0) (r : Rea
               taken_same c into.cross t m (ap (slice_get core.timelines) into.receiver ∙ own) (ap (slice_get core.mails) into.receiver ∙ its_mail));
         }
 
-    pub part_of : (i : ℕ) (t : TimelineOf B S P) → slice_get core.timelines i ≡ Some t → IsPartOf plan line s core i (later i) t
+    part_of : (i : ℕ) (t : TimelineOf B S P) → slice_get core.timelines i ≡ Some t → IsPartOf plan line s core i (later i) t
     part_of i t own = record {
       sound = stands i t own;
       budget = (timeline_home i t own).0.budget ∙ sym same.budget;

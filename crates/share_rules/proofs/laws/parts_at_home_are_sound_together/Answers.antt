@@ -1,4 +1,4 @@
-use Rattle.share_rules.proofs.Closes.{timeline_home, barrier_home, part_of}
+use Rattle.share_rules.proofs.Closes.{timeline_home, barrier_home}
 use Rattle.share_rules.proofs.laws.parts_at_home_are_sound_together.Goals as goal
 
 pub returns-clause-crosses : goal.returns-clause-crosses
