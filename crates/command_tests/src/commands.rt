@@ -8,6 +8,10 @@ use std::test::Fail;
 const TWO: &str =
     "ring [ nodes 2 token 0 hop [ from 0 to 1 delay 5 ] hop [ from 1 to 0 delay 3 ] ]";
 
+const TRACE: &[u8] = b"E 0 0 0 0 0\nE 0 0 1 0 1\nE 5 0 2 0 1\nE 8 0 3 0 0\nend 10 4\n";
+
+const REPORT: &[u8] = b"events 4\nlast 8\nsent 0 0\ndropped 0 0\nudp 0 0\ntcp 0\n";
+
 const BASE: &str =
     "base [ nodes 2 token 0 hop [ from 0 to 1 delay 5 ] hop [ from 1 to 0 delay 3 ] ]";
 
@@ -64,11 +68,11 @@ fn check_failing(
 
 #[test]
 fn failing_sinks_keep_a_part(rt: HostRuntime) -> Result<(), Fail> {
-    let trace = b"E 0 0 0 0 0\nE 0 0 1 0 1\nE 5 0 2 0 1\nE 8 0 3 0 0\nend 10 4\n";
     let printing =
         b"ring [\n  nodes 2\n  token 0\n  hop [\n    from 0\n    to 1\n    delay 5\n  ]\n  hop [\n    from 1\n    to 0\n    delay 3\n  ]\n]\n";
     for call in 0..7u64 {
-        check_failing(&rt, "seq --until 10 m.dml", trace, call)?;
+        check_failing(&rt, "seq --until 10 m.dml", TRACE, call)?;
+        check_failing(&rt, "seq --until 10 --report m.dml", TRACE, call)?;
     }
     for call in 0..13u64 {
         check_failing(&rt, "dml m.dml", printing, call)?;
@@ -82,6 +86,32 @@ fn failing_sinks_keep_a_part(rt: HostRuntime) -> Result<(), Fail> {
         check_failing(&rt, "plan m.dml", plan, call)?;
     }
     Ok(())
+}
+
+/// Runs `seq --report` with an `err` that fails at its write number `call`, and looks that the whole
+/// trace stands on `out` and a part of the report on `err`.
+fn check_failing_report(rt: &(impl Abort + AllocGlobal), call: u64) -> Result<(), Fail> {
+    let alloc = rt.alloc();
+    let words = split_words(alloc, "seq --until 10 --report m.dml")?;
+    let mut library = library_of(alloc, TWO)?;
+    let mut out = MemorySink::new(alloc, 64, 4096, Vec::new(alloc))?;
+    let mut err = MemorySink::new(alloc, 9, 4096, vec![in alloc; call]?)?;
+    let status = offline(alloc, words.as_slice(), &mut library, &mut out, &mut err);
+    assert_eq!(rt; status, 7);
+    assert_eq!(rt; out.faults(), 0);
+    assert_eq!(rt; err.faults(), 1);
+    assert!(rt; out.bytes() == TRACE);
+    assert!(rt; REPORT.starts_with(err.bytes()));
+    assert_eq!(rt; err.bytes().len() as u64, call.wrapping_mul(9));
+    Ok(())
+}
+
+#[test]
+fn failing_reports_keep_the_trace(rt: HostRuntime) -> Result<(), Fail> {
+    for call in 0..6u64 {
+        check_failing_report(&rt, call)?;
+    }
+    check_text(&rt, "seq --until 10 --report m.dml", TWO, 0, TRACE, REPORT)
 }
 
 /// Runs the command over a library that fails at its call number `call`, and looks at the line of

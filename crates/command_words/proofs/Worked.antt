@@ -16,6 +16,10 @@ seq_words_in_another_order : asked_of_words (codes "seq" ∷ codes "m.dml" ∷ c
 unfolding asked_of_words command_of_words command_in_table all_landed stand_once have_values files_in value_of is_schedule parts
 seq_words_in_another_order = refl
 
+reported_words : asked_of_words (codes "seq" ∷ codes "--report" ∷ codes "m.dml" ∷ codes "--until" ∷ codes "10" ∷ []) ≡ Some (record { command = commands.Seq 10 1000000000; schedule = None; report = true; files = codes "m.dml" ∷ [] })
+unfolding asked_of_words command_of_words command_in_table all_landed stand_once have_values files_in value_of is_schedule parts
+reported_words = refl
+
 dml_words : asked_of_words (codes "dml" ∷ codes "m.dml" ∷ codes "n.dml" ∷ []) ≡ Some (record { command = commands.Dml false; schedule = None; report = false; files = codes "m.dml" ∷ codes "n.dml" ∷ [] })
 unfolding asked_of_words command_of_words command_in_table all_landed stand_once have_values files_in value_of is_schedule parts
 dml_words = refl
@@ -82,9 +86,9 @@ not_landed : asked_of_words (codes "run" ∷ codes "--until" ∷ codes "1" ∷ c
 unfolding command_of_words asked_of_words command_in_table all_landed stand_once have_values files_in value_of is_schedule parts
 not_landed = refl
 
-no_report : asked_of_words (codes "seq" ∷ codes "--until" ∷ codes "1" ∷ codes "--report" ∷ codes "m.dml" ∷ []) ≡ None
+no_report_of_a_step : asked_of_words (codes "step" ∷ codes "--until" ∷ codes "1" ∷ codes "--report" ∷ codes "m.dml" ∷ []) ≡ None
 unfolding command_of_words asked_of_words command_in_table all_landed stand_once have_values files_in value_of is_schedule parts
-no_report = refl
+no_report_of_a_step = refl
 
 a_run : command_in_table (codes "run" ∷ codes "--until" ∷ codes "1" ∷ codes "--workers" ∷ codes "64" ∷ codes "m.dml" ∷ []) ≡ Some Run
 unfolding command_of_words asked_of_words command_in_table all_landed stand_once have_values files_in value_of is_schedule parts

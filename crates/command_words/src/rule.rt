@@ -193,6 +193,7 @@ fn has_landed(word: &str) -> bool
         || word == "--flat"
         || word == "--until"
         || word == "--budget"
+        || word == "--report"
         || word == "--seed"
         || word == "--size"
 }

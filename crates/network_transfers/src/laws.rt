@@ -2,11 +2,13 @@
 
 ghost use Rattle.std.specs.Prelude.{◌≡◌, ◌<◌, ◌≤◌, ◌+◌, ℕ, Bool, None};
 ghost use Rattle.event_order.specs.declared.key.Key.{Key as KeyValue};
+ghost use Rattle.sim_base.specs.SegmentFields.{SegmentFields};
 ghost use Rattle.ssf_model.specs.declared.plan.Plan.{Plan};
 ghost use Rattle.ssf_model.specs.Reaction.{LatestTime};
 ghost use Rattle.ssf_model.specs.Run.{Fits};
 ghost use Rattle.ip_layer.specs.Packets.{PacketFields, IsPacket};
 ghost use Rattle.tcp_rules.specs.Servers.{ServerFields};
+ghost use Rattle.tcp_rules.specs.Transfers.{LiesIn};
 ghost use Rattle.host_rules.specs.Hosts.{EntryFields, HostFields};
 ghost use Rattle.host_rules.specs.Limits.{IsHost};
 ghost use Rattle.net_graph.specs.declared.rows.Network.{Network};
@@ -14,6 +16,7 @@ ghost use Rattle.net_graph.specs.Networks.{IsNetwork};
 ghost use Rattle.net_layout.specs.Faults.{first_fault};
 ghost use Rattle.net_plan.specs.NetDraft.{IsNetBuilt};
 ghost use Rattle.transfer_laws.specs.Sent.{IsServing};
+ghost use Rattle.transfer_laws.specs.Stretch.{WaitsAfter, IsSynAt};
 ghost use Rattle.network_transfers.specs.Senders.{HasAddress, IsHostOf, HasSent};
 
 /// In a network without a fault no two hosts have an address in common.
@@ -22,15 +25,33 @@ pub fn addresses_have_one_host()
         → HasAddress network g address → HasAddress network h address → g ≡ h }
 {}
 
+/// Each plan of a network without a fault fits.
+pub fn plans_fit<B>()
+    ensures { (behaviour : B) (network : Network) (plan : Plan B HostFields PacketFields) → IsNetwork network → first_fault network ≡ None
+        → IsNetBuilt behaviour network plan → Fits IsHost IsPacket plan }
+{}
+
 /// In every run of the plan of a network without a fault, up to each time and under each cut: where a
 /// server's peer has an address other than 0, each position that the server has delivered lies in a
 /// segment that the one host of that address sent before, from the peer's port to the server's own
-/// address and port. What a server delivers begins right after its peer's SYN. Of the plan it is asked
-/// that it fits, as each plan that `net_plan::plan_of` answers does.
+/// address and port, and so does the SYN right after which these positions begin.
 pub fn servers_deliver_what_peers_sent<B>()
-    ensures { (behaviour : B) (network : Network) (plan : Plan B HostFields PacketFields) (until : ℕ) (kept : KeyValue → Bool)
-        → IsNetwork network → first_fault network ≡ None → IsNetBuilt behaviour network plan → Fits IsHost IsPacket plan → until ≤ LatestTime
+    ensures delivered { (behaviour : B) (network : Network) (plan : Plan B HostFields PacketFields) (until : ℕ) (kept : KeyValue → Bool)
+        → IsNetwork network → first_fault network ≡ None → IsNetBuilt behaviour network plan → until ≤ LatestTime
         → (n : ℕ) (x : EntryFields) (server : ServerFields) → IsServing plan until kept n x server → (x.sockets.peer ≡ 0 → ⊥)
         → (position : ℕ) → server.irs < position → position ≤ server.irs + server.delivered
-        → (h : ℕ) × IsHostOf network x.sockets.peer h × HasSent plan until kept n h x.sockets position }
+        → (h : ℕ) × IsHostOf network x.sockets.peer h × (segment : SegmentFields) × HasSent plan until kept n h x.sockets segment × LiesIn position segment }
+    ensures syn { (behaviour : B) (network : Network) (plan : Plan B HostFields PacketFields) (until : ℕ) (kept : KeyValue → Bool)
+        → IsNetwork network → first_fault network ≡ None → IsNetBuilt behaviour network plan → until ≤ LatestTime
+        → (n : ℕ) (x : EntryFields) (server : ServerFields) → IsServing plan until kept n x server → (x.sockets.peer ≡ 0 → ⊥)
+        → (h : ℕ) × IsHostOf network x.sockets.peer h × (segment : SegmentFields) × HasSent plan until kept n h x.sockets segment × IsSynAt server.irs segment }
+{}
+
+/// In these runs each server waits for the position right after its peer's SYN and the bytes that it has
+/// delivered, and once it has passed its peer's FIN, right after that: what it has delivered is one
+/// stretch of positions without a gap.
+pub fn servers_deliver_without_gaps<B>()
+    ensures { (behaviour : B) (network : Network) (plan : Plan B HostFields PacketFields) (until : ℕ) (kept : KeyValue → Bool)
+        → IsNetwork network → first_fault network ≡ None → IsNetBuilt behaviour network plan → until ≤ LatestTime
+        → (n : ℕ) (x : EntryFields) (server : ServerFields) → IsServing plan until kept n x server → WaitsAfter server.state server }
 {}

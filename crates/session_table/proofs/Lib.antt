@@ -1,4 +1,5 @@
 mod Deadlines
+mod Due
 mod Keeping
 mod Lists
 mod Worked

@@ -1,7 +1,8 @@
 -- How a table is kept. No public clause cites this file.
-use Rattle.std.specs.Prelude.{ℕ, ◌≡◌, ◌<◌, Bool, false, ◌&&◌, nat_eq, List, [], ◌∷◌, Option, Some, None}
+use Rattle.std.specs.Prelude.{ℕ, ◌≡◌, ◌<◌, Bool, false, ◌&&◌, nat_eq, nat_le, List, [], ◌∷◌, map, Option, Some, None}
 use Rattle.std.specs.declared.cmp.Ordering.{Ordering}
 use Rattle.std.specs.Ordering.{nat_cmp, ordering_then}
+use Rattle.std.specs.List.{take_while}
 use Rattle.std.specs.Map.{lookup}
 use Rattle.std.specs.BTreeMap.{is_at}
 use Rattle.std.specs.Option.{option_eq}
@@ -12,6 +13,10 @@ use Rattle.session_table.specs.Entries.{accepts_at, opens_at}
 
 abbrev pub deadline_cmp : Deadline → Deadline → Ordering
 deadline_cmp a b = ordering_then (nat_cmp a.at b.at) (nat_cmp a.number b.number)
+
+-- the numbers of the first of these deadlines, those that are at most now
+abbrev pub passed_numbers : (now : ℕ) → List Deadline → List ℕ
+passed_numbers now deadlines = map (λ (d : Deadline). d.number) (take_while (λ (d : Deadline). nat_le d.at now) deadlines)
 
 abbrev pub is_number : ℕ → Option ℕ → Bool
 is_number n None = false

@@ -1,12 +1,12 @@
 //! The table.
 
-ghost use Rattle.std.specs.Prelude.{◌≡◌, ◌&&◌, ◌||◌, not, if◌then◌else◌, Some, None, OnOk, OnErr};
+ghost use Rattle.std.specs.Prelude.{◌≡◌, ◌&&◌, ◌||◌, not, if◌then◌else◌, Some, None, IfOk, OnOk, OnErr};
 ghost use Rattle.std.specs.HashMap.{get};
-ghost use Rattle.std.specs.BTreeSet.{contains};
+ghost use Rattle.std.specs.BTreeSet.{contains, IsOrdered};
 ghost use Rattle.session_table.specs.declared.entry.Sockets.{Sockets as SocketsValue};
 ghost use Rattle.session_table.specs.declared.table.Deadline.{Deadline as DeadlineValue};
-ghost use Rattle.session_table.specs.Entries.{same_sockets, accepts_at, opens_at, has_passed};
-ghost use Rattle.session_table.specs.Indexes.{deadline_cmp, is_due_at};
+ghost use Rattle.session_table.specs.Entries.{same_sockets, accepts_at, opens_at};
+ghost use Rattle.session_table.specs.Indexes.{deadline_cmp, is_due_at, passed_numbers};
 
 use crate::{Entry, Sockets};
 use sim_base::Memory;
@@ -103,14 +103,18 @@ fn forget_deadline<S>(deadlines: &mut BTreeSet<Deadline>, entry: &Entry<S>)
     }
 }
 
-/// Whether this deadline is at most `now`.
-fn has_passed(deadline: Option<u64>, now: u64) -> bool
-    ensures { result ≡ has_passed now deadline }
+/// The numbers of the sessions whose deadline is at most `now`, in the order of their deadlines.
+fn passed(alloc: Global, deadlines: &BTreeSet<Deadline>, now: u64) -> Result<Vec<u64>, Memory>
+    ensures numbers { IfOk result (λ numbers. numbers.items ≡ passed_numbers now deadlines.now.keys) }
+    ensures ordered { IsOrdered deadline_cmp deadlines.now }
 {
-    match deadline {
-        Some(deadline) => deadline <= now,
-        None => false,
-    }
+    Ok(
+        deadlines
+            .iter()
+            .take_while(|deadline| deadline.at <= now)
+            .map(|deadline| deadline.number)
+            .collect(alloc)?,
+    )
 }
 
 impl<S: Drop> SessionTable<S> {
@@ -163,13 +167,9 @@ impl<S: Drop> SessionTable<S> {
     pub fn due(&self, alloc: Global, now: u64) -> Result<Vec<u64>, Memory>
         ensures { IfOk result (λ numbers. numbers.items ≡ due now self.now) }
     {
-        Ok(
-            self.entries
-                .values()
-                .filter(|entry| has_passed(entry.deadline, now))
-                .map(|entry| entry.number)
-                .collect(alloc)?,
-        )
+        let mut numbers = passed(alloc, &self.deadlines, now)?;
+        numbers.sort_unstable();
+        Ok(numbers)
     }
 
     /// Puts a session into the table, in its place by numbers.

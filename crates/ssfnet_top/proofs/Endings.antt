@@ -1,13 +1,15 @@
 -- From the answer of a command to how its call ends.
-use Rattle.std.proofs.Common.{ℕ, ◌≡◌, ◌∙◌, sym, ap, subst, refl, List, [], ◌∷◌, ◌++◌, append-nil, length, take, codes, arith, IfSome, inl, inr, ◌⊎◌, Option, Some, None, IfOk, IfErr, OnOk, OnErr, Result, Ok, Err, Vec, Global}
+use Rattle.std.proofs.Common.{ℕ, ◌≡◌, ◌∙◌, sym, ap, subst, refl, Bool, true, false, List, [], ◌∷◌, ◌++◌, append-nil, length, take, codes, arith, IfSome, inl, inr, ◌⊎◌, Option, Some, None, IfOk, IfErr, OnOk, OnErr, Result, Ok, Err, Vec, Global}
 use Rattle.dml_tree.specs.Attributes.{Attributes}
 use Rattle.sim_base.specs.Outside.{Files, Rose, Appends, AppendsPrefix}
+use Rattle.command_words.specs.declared.command.Command.{Command}
+use Rattle.command_words.specs.declared.command.Command.TheVariants as commands
 use Rattle.ssfnet_top.specs.declared.refusal.Refusal.{Refusal}
 use Rattle.ssfnet_top.specs.declared.refusal.Refusal.TheVariants as refusal
 use Rattle.ssfnet_top.specs.Refusals.{status_of, line_of}
 use Rattle.command_words.specs.Words.{Asked, asked_of_words}
-use Rattle.ssfnet_top.specs.Outcome.{Due, done, refused, refusal_line, AreRead, IsText, IsTreeDue, IsAskedDue, IsOutcome}
-use Rattle.ssfnet_top.specs.Ending.{Outside, IsStopped, IsReached, IsFileReached, Ends, due_of, IsHalt, Answers, IsReadFault, IsTold, IsLineCut, Concerns}
+use Rattle.ssfnet_top.specs.Outcome.{Due, done, done_with, refused, refusal_line, AreRead, IsText, IsTreeDue, IsAskedDue, IsOutcome}
+use Rattle.ssfnet_top.specs.Ending.{Outside, IsReport, Tells, IsToldOf, WantsReport, HasTold, IsReportCut, IsReportTold, IsStopped, IsReached, IsFileReached, Ends, due_of, IsHalt, Answers, IsReadFault, IsTold, IsLineCut, Concerns}
 use Rattle.std.proofs.lemmas.Grind.{common_steps}
 
 -- nothing is written
@@ -23,11 +25,50 @@ pub part_all : (text : List ℕ) (o n : Option (List ℕ)) → Appends text o n 
 part_all text None n all = tt
 part_all text (Some h) n all = (length text, omega arith, all ∙ ap (λ (bytes : List ℕ). Some (h ++ bytes)) (sym (take_whole text)))
 
+-- A report that is not wanted is empty.
+
+empty_where : (wanted : Bool) (text : List ℕ) → IsReport wanted text → ¬ (wanted ≡ true) → text ≡ []
+empty_where true text is lacks = absurd (lacks refl)
+empty_where false text is lacks = is
+
+told_nothing : (command : Command) (wanted : Bool) (text : List ℕ) → Tells command wanted text → ¬ (wanted ≡ true) → text ≡ []
+told_nothing (commands.Dml flat) wanted text is lacks = is
+told_nothing commands.Check wanted text is lacks = is
+told_nothing commands.Plan wanted text is lacks = is
+told_nothing (commands.Seq until budget) wanted text is lacks = empty_where wanted text is lacks
+told_nothing (commands.Step until budget aligned threshold) wanted text is lacks = absurd is
+told_nothing (commands.Run until budget aligned threshold workers) wanted text is lacks = absurd is
+told_nothing (commands.Gen seed size) wanted text is lacks = is
+
+unwanted : (asked : Option Asked) (text : List ℕ) → IsToldOf asked text → ¬ WantsReport asked → text ≡ []
+unwanted None text is lacks = absurd is
+unwanted (Some asked) text is lacks = told_nothing asked.command asked.report text is lacks
+
+wanted_or_empty : (wanted : Bool) → (wanted ≡ true) ⊎ ¬ (wanted ≡ true)
+wanted_or_empty true = inl refl
+wanted_or_empty false = inr (λ is. let differ : ◌≡◌ {A = Bool} false true = is in cc)
+
+-- one that is not empty is wanted
+wanted_where : (asked : Option Asked) (text : List ℕ) → IsToldOf asked text → ¬ (text ≡ []) → WantsReport asked
+wanted_where None text is some = absurd is
+wanted_where (Some asked) text is some = elim (wanted_or_empty asked.report) [
+  | inl wanted ↦ wanted
+  | inr lacks ↦ absurd (some (told_nothing asked.command asked.report text is lacks))
+]
+
 -- a line that was cut short is of the command
 cut_line : (asked : Option Asked) (r : Refusal) (faults faults' : ℕ) (held held' : Option (List ℕ)) → Concerns asked r
     → Rose faults faults' → AppendsPrefix (refusal_line r) held held' ⊎ AppendsPrefix (refusal_line refusal.Memory) held held' → IsLineCut asked faults faults' held held'
 cut_line asked r faults faults' held held' c rose (inl part) = (r, c, rose, part)
 cut_line asked r faults faults' held held' c rose (inr part) = (refusal.Memory, tt, rose, part)
+
+-- what ended well was not refused
+pub ok_err : (unit : Unit {0}) (r : Refusal) → ◌≡◌ {A = Result (Unit {0}) Refusal} (Ok unit) (Err r) → ⊥
+ok_err unit r is = cc
+
+not_halted : (unit : Unit {0}) (faults faults' : ℕ) → IsHalt (Ok unit) faults faults' → ⊥
+not_halted unit faults faults' (inl is) = ok_err unit refusal.Memory is
+not_halted unit faults faults' (inr is) = ok_err unit refusal.Write is.0
 
 -- the line of a refusal is told where it is written on `err`
 module _ (before after : Outside) where
@@ -58,10 +99,10 @@ module _ (before after : Outside) where
         → IsTold r status before.err_faults after.err_faults before.err after.err → Ends files words status before after
     whole_ends r status text outcome all c (inl told) = inl (refused r text, outcome, inl (record { status_is = told.0; out = all; err = told.1 }))
     whole_ends r status text outcome all c (inr (inl told)) =
-        inl (refused r text, outcome, inr (record { stopped = inl (told.0, told.2); out = part_all text before.out after.out all }))
+        inl (refused r text, outcome, inr (inl (record { stopped = inl (told.0, told.2); out = part_all text before.out after.out all })))
     whole_ends r status text outcome all c (inr (inr failed)) =
         let cut = cut_line (asked_of_words words) r before.err_faults after.err_faults before.err after.err c failed.1 failed.2 in
-        inl (refused r text, outcome, inr (record { stopped = inr (failed.0, inr cut); out = part_all text before.out after.out all }))
+        inl (refused r text, outcome, inr (inl (record { stopped = inr (failed.0, inr cut); out = part_all text before.out after.out all })))
 
     unread_ends : (name : List ℕ) (status : ℕ) → IsFileReached files (asked_of_words words) name → Rose before.read_faults after.read_faults → Appends [] before.out after.out
         → Concerns (asked_of_words words) (refusal.Read name)
@@ -74,65 +115,111 @@ module _ (before after : Outside) where
         inr (record { cause = inl (inr (failed.0, inr cut)); out = none })
 
     -- it was refused, and the line told
-    pub ends_refused : (r : Refusal) (status : ℕ)
-        → Answers (IsOutcome files words) (Err r) before.out_faults after.out_faults before.out after.out
+    pub ends_refused : (report : List ℕ) (r : Refusal) (status : ℕ)
+        → Answers (IsOutcome files words) report (Err r) before.out_faults after.out_faults before.out after.out
         ⊎ IsReadFault files (asked_of_words words) (Err r) before.read_faults after.read_faults before.out after.out
         → Concerns (asked_of_words words) r
         → IsTold r status before.err_faults after.err_faults before.err after.err
         → Ends files words status before after
-    ends_refused r status (inl (inl all)) c told = whole_ends r status all.0 all.1 all.2 c told
-    ends_refused r status (inl (inr (inl (due, outcome, halt, part)))) c told =
-        inl (due, outcome, inr (record { stopped = halt_stops (asked_of_words words) r status halt c told; out = part }))
-    ends_refused r status (inl (inr (inr (is, none)))) c told =
+    ends_refused report r status (inl (inl all)) c told = whole_ends r status all.0 all.1 all.2 c told
+    ends_refused report r status (inl (inr (inl (due, outcome, halt, part)))) c told =
+        inl (due, outcome, inr (inl (record { stopped = halt_stops (asked_of_words words) r status halt c told; out = part })))
+    ends_refused report r status (inl (inr (inr (is, none)))) c told =
         let halt : IsHalt (Err r) before.out_faults after.out_faults = inl is in
         inr (record { cause = inl (halt_stops (asked_of_words words) r status halt c told); out = none })
-    ends_refused r status (inr (name, file, is, rose, none)) c told =
+    ends_refused report r status (inr (name, file, is, rose, none)) c told =
         let same : r ≡ refusal.Read name = cc in
         let P : Refusal → Type 0 = λ s. IsTold s status before.err_faults after.err_faults before.err after.err in
         unread_ends name status file rose none (subst (λ (s : Refusal). Concerns (asked_of_words words) s) same c) (subst P same told)
 
+    -- it ended well, and the report was told, or cut short
+    done_ends : (report text : List ℕ) (status : ℕ) → IsOutcome files words (done_with report text) → Appends text before.out after.out → IsToldOf (asked_of_words words) report
+        → IsReportTold report status before.err_faults after.err_faults before.err after.err → Ends files words status before after
+    done_ends report text status outcome all is (inl told) = inl (done_with report text, outcome, inl (record { status_is = told.0; out = all; err = told.1 }))
+    done_ends report text status outcome all is (inr cut) =
+        inl (
+          done_with report text,
+          outcome,
+          inr (inr (record { wanted = wanted_where (asked_of_words words) report is cut.1; well = refl; status_is = cut.0; rose = cut.2; out = all; err = cut.3 })),
+        )
+
+    pub ends_well : (report : List ℕ) (unit : Unit {0}) (status : ℕ)
+        → Answers (IsOutcome files words) report (Ok unit) before.out_faults after.out_faults before.out after.out
+        ⊎ IsReadFault files (asked_of_words words) (Ok unit) before.read_faults after.read_faults before.out after.out
+        → IsToldOf (asked_of_words words) report
+        → IsReportTold report status before.err_faults after.err_faults before.err after.err
+        → Ends files words status before after
+    ends_well report unit status (inl (inl all)) is told = done_ends report all.0 status all.1 all.2 is told
+    ends_well report unit status (inl (inr (inl (due, outcome, halt, part)))) is told = absurd (not_halted unit before.out_faults after.out_faults halt)
+    ends_well report unit status (inl (inr (inr (memory, none)))) is told = absurd (ok_err unit refusal.Memory memory)
+    ends_well report unit status (inr (name, file, read, rose, none)) is told = absurd (ok_err unit (refusal.Read name) read)
+
 -- What is told whatever the files hold.
+
+-- with status 0, with 7 where `err` failed, and else with the line of the refusal
+abbrev pub IsTelling : Option Asked → ℕ → ℕ → ℕ → Option (List ℕ) → Option (List ℕ) → Type 0
+IsTelling asked status faults faults' held held' =
+    (status ≡ 0) ⊎ (((status ≡ 7) × (IsLineCut asked faults faults' held held' ⊎ IsReportCut asked faults faults' held held'))
+    ⊎ ((s : Refusal) × (status_of s ≡ status) × Concerns asked s × Appends (refusal_line s) held held'))
 
 module _ (r : Refusal) (status faults faults' : ℕ) (held held' : Option (List ℕ)) where
   pub told_line : (asked : Option Asked) → IsTold r status faults faults' held held' → Concerns asked r
-      → (status ≡ 0) ⊎ (((status ≡ 7) × IsLineCut asked faults faults' held held') ⊎ ((s : Refusal) × (status_of s ≡ status) × Concerns asked s × Appends (refusal_line s) held held'))
+      → IsTelling asked status faults faults' held held'
   told_line asked (inl told) c = inr (inr (r, sym told.0, c, told.1))
   told_line asked (inr (inl told)) c = inr (inr (refusal.Memory, sym told.0, tt, told.2))
-  told_line asked (inr (inr failed)) c = inr (inl (failed.0, cut_line asked r faults faults' held held' c failed.1 failed.2))
+  told_line asked (inr (inr failed)) c = inr (inl (failed.0, inl (cut_line asked r faults faults' held held' c failed.1 failed.2)))
+
+-- a report that is written from a copy of it
+pub told_as : (text report : List ℕ) (status faults faults' : ℕ) (held held' : Option (List ℕ)) → text ≡ report → IsReportTold text status faults faults' held held'
+    → IsReportTold report status faults faults' held held'
+told_as text report status faults faults' held held' same told = subst (λ (t : List ℕ). IsReportTold t status faults faults' held held') same told
+
+module _ (asked : Option Asked) (report : List ℕ) (status faults faults' : ℕ) (held held' : Option (List ℕ)) (is : IsToldOf asked report) where
+  pub report_line : IsReportTold report status faults faults' held held' → IsTelling asked status faults faults' held held'
+  report_line (inl told) = inl told.0
+  report_line (inr cut) = inr (inl (cut.0, inr (report, is, wanted_where asked report is cut.1, cut.2, cut.3)))
+
+  pub report_quiet : IsReportTold report status faults faults' held held' → status ≡ 0 → ¬ WantsReport asked → Appends [] held held'
+  report_quiet (inl told) well lacks = subst (λ (text : List ℕ). Appends text held held') (unwanted asked report is lacks) told.1
+  report_quiet (inr cut) well lacks = absurd (let seven = cut.0 in omega arith)
+
+  pub report_told : IsReportTold report status faults faults' held held' → status ≡ 0 → HasTold asked held held'
+  report_told (inl told) well = (report, is, told.1)
+  report_told (inr cut) well = absurd (let seven = cut.0 in omega arith)
 
 -- a part of what is due was written
-pub sent_part : (IsDue : Due → Type 0) (due : Due) (r : Refusal) (faults faults' : ℕ) (held held' : Option (List ℕ)) → IsDue due
-    → (r ≡ refusal.Memory) ⊎ ((r ≡ refusal.Write) × Rose faults faults') → AppendsPrefix due.out held held' → Answers IsDue (Err r) faults faults' held held'
-sent_part IsDue due r faults faults' held held' is (inl m) part = inr (inl (due, is, inl (ap (λ (s : Refusal). Err s) m), part))
-sent_part IsDue due r faults faults' held held' is (inr w) part = inr (inl (due, is, inr (ap (λ (s : Refusal). Err s) w.0, w.1), part))
+pub sent_part : (IsDue : Due → Type 0) (due : Due) (report : List ℕ) (r : Refusal) (faults faults' : ℕ) (held held' : Option (List ℕ)) → IsDue due
+    → (r ≡ refusal.Memory) ⊎ ((r ≡ refusal.Write) × Rose faults faults') → AppendsPrefix due.out held held' → Answers IsDue report (Err r) faults faults' held held'
+sent_part IsDue due report r faults faults' held held' is (inl m) part = inr (inl (due, is, inl (ap (λ (s : Refusal). Err s) m), part))
+sent_part IsDue due report r faults faults' held held' is (inr w) part = inr (inl (due, is, inr (ap (λ (s : Refusal). Err s) w.0, w.1), part))
 
 -- a text was written, wholly or in part
-pub sent_all : (IsDue : Due → Type 0) (answer : Result (Unit {0}) Refusal) (text : List ℕ) (faults faults' : ℕ) (held held' : Option (List ℕ)) → IsDue (done text)
+pub sent_all : (IsDue : Due → Type 0) (answer : Result (Unit {0}) Refusal) (report text : List ℕ) (faults faults' : ℕ) (held held' : Option (List ℕ)) → IsDue (done_with report text)
     → OnOk answer (Appends text held held') → OnErr answer (AppendsPrefix text held held')
-    → IfErr answer (λ r. (r ≡ refusal.Memory) ⊎ ((r ≡ refusal.Write) × Rose faults faults')) → Answers IsDue answer faults faults' held held'
-sent_all IsDue (Ok unit) text faults faults' held held' is all part cause = inl (text, is, all)
-sent_all IsDue (Err r) text faults faults' held held' is all part cause = sent_part IsDue (done text) r faults faults' held held' is cause part
+    → IfErr answer (λ r. (r ≡ refusal.Memory) ⊎ ((r ≡ refusal.Write) × Rose faults faults')) → Answers IsDue report answer faults faults' held held'
+sent_all IsDue (Ok unit) report text faults faults' held held' is all part cause = inl (text, is, all)
+sent_all IsDue (Err r) report text faults faults' held held' is all part cause = sent_part IsDue (done_with report text) report r faults faults' held held' is cause part
 
 -- the text of an answer was written, wholly or in part; or the answer was refused
 pub sent_answer : (IsDue : Due → Type 0) (made : Result (Vec ℕ Global) Refusal) (answer : Result (Unit {0}) Refusal) (faults faults' : ℕ) (held held' : Option (List ℕ))
     → IfOk made (λ text. IsDue (done text.items)) → IfErr made (λ r. (r ≡ refusal.Memory) ⊎ IsDue (refused r []))
     → IfOk made (λ text. OnOk answer (Appends text.items held held')) → IfOk made (λ text. OnErr answer (AppendsPrefix text.items held held'))
     → IfOk made (λ text. IfErr answer (λ r. (r ≡ refusal.Write) × Rose faults faults')) → IfErr made (λ r. (answer ≡ Err r) × Appends [] held held')
-    → Answers IsDue answer faults faults' held held'
+    → Answers IsDue [] answer faults faults' held held'
 sent_answer IsDue (Ok text) (Ok unit) faults faults' held held' is cause all part failed nothing = inl (text.items, is, all)
 sent_answer IsDue (Ok text) (Err r) faults faults' held held' is cause all part failed nothing =
-    sent_part IsDue (done text.items) r faults faults' held held' is (inr failed) part
+    sent_part IsDue (done text.items) [] r faults faults' held held' is (inr failed) part
 sent_answer IsDue (Err r) answer faults faults' held held' is (inl m) all part failed nothing =
     inr (inr (nothing.0 ∙ ap (λ (s : Refusal). Err s) m, nothing.1))
 sent_answer IsDue (Err r) answer faults faults' held held' is (inr due) all part failed nothing =
-    inl ([], subst (λ (a : Result (Unit {0}) Refusal). IsDue (due_of a [])) (sym nothing.0) due, nothing.1)
+    inl ([], subst (λ (a : Result (Unit {0}) Refusal). IsDue (due_of [] a [])) (sym nothing.0) due, nothing.1)
 
 -- the same where one text or one refusal is due
 pub sent_text : (due : Result (List ℕ) Refusal) (made : Result (Vec ℕ Global) Refusal) (answer : Result (Unit {0}) Refusal) (faults faults' : ℕ) (held held' : Option (List ℕ))
     → IfOk made (λ text. due ≡ Ok text.items) → IfErr made (λ r. (r ≡ refusal.Memory) ⊎ (due ≡ Err r))
     → IfOk made (λ text. OnOk answer (Appends text.items held held')) → IfOk made (λ text. OnErr answer (AppendsPrefix text.items held held'))
     → IfOk made (λ text. IfErr answer (λ r. (r ≡ refusal.Write) × Rose faults faults')) → IfErr made (λ r. (answer ≡ Err r) × Appends [] held held')
-    → Answers (IsText due) answer faults faults' held held'
+    → Answers (IsText due) [] answer faults faults' held held'
 sent_text due (Ok text) answer faults faults' held held' is cause all part failed nothing =
     sent_answer (IsText due) (Ok text) answer faults faults' held held' (subst (λ (d : Result (List ℕ) Refusal). IsText d (done text.items)) (sym is) refl) tt all part failed nothing
 sent_text due (Err r) answer faults faults' held held' is (inl m) all part failed nothing =
@@ -160,23 +247,23 @@ module _ (words : List (List ℕ)) (asked : Asked) (names : List (List ℕ)) (as
   outcome_of files tree due read is =
       subst (λ (o : Option Asked). IsAskedDue files o due) (sym asks) (tree, subst (λ (l : List (List ℕ)). AreRead files 0 l tree) same read, is)
 
-  unread_answer : (files : Files) (r : Refusal) (read read' faults : ℕ) (held : Option (List ℕ))
+  unread_answer : (files : Files) (report : List ℕ) (r : Refusal) (read read' faults : ℕ) (held : Option (List ℕ))
       → ((r ≡ refusal.Memory) ⊎ (status_of r ≡ 3)) ⊎ AreRead files 0 names (Err r) → ((name : List ℕ) → r ≡ refusal.Read name → IsReached files 0 names name) → (status_of r ≡ 3 → Rose read read')
-      → Answers (IsOutcome files words) (Err r) faults faults held held ⊎ IsReadFault files (asked_of_words words) (Err r) read read' held held
-  unread_answer files r read read' faults held (inl (inl m)) reached rose = inl (inr (inr (ap (λ (s : Refusal). Err s) m, appends_nothing held)))
-  unread_answer files r read read' faults held (inl (inr three)) reached rose =
+      → Answers (IsOutcome files words) report (Err r) faults faults held held ⊎ IsReadFault files (asked_of_words words) (Err r) read read' held held
+  unread_answer files report r read read' faults held (inl (inl m)) reached rose = inl (inr (inr (ap (λ (s : Refusal). Err s) m, appends_nothing held)))
+  unread_answer files report r read read' faults held (inl (inr three)) reached rose =
       let found : (name : List ℕ) × (r ≡ refusal.Read name) = read_is r three in
       let file : IsReached files 0 names found.0 = reached found.0 found.1 in
       inr (found.0, of_file files asked (asked_of_words words) names found.0 asks same file, ap (λ (s : Refusal). Err s) found.1, rose three, appends_nothing held)
-  unread_answer files r read read' faults held (inr are) reached rose = inl (inl ([], outcome_of files (Err r) (refused r []) are refl, appends_nothing held))
+  unread_answer files report r read read' faults held (inr are) reached rose = inl (inl ([], outcome_of files (Err r) (refused r []) are refl, appends_nothing held))
 
   -- where the files were refused
-  pub unread_answers : (told : Option Files) (r : Refusal) (read read' faults : ℕ) (held : Option (List ℕ))
+  pub unread_answers : (told : Option Files) (report : List ℕ) (r : Refusal) (read read' faults : ℕ) (held : Option (List ℕ))
       → ((r ≡ refusal.Memory) ⊎ (status_of r ≡ 3)) ⊎ IfSome told (λ files. AreRead files 0 names (Err r))
       → ((name : List ℕ) → r ≡ refusal.Read name → IfSome told (λ files. IsReached files 0 names name)) → (status_of r ≡ 3 → Rose read read')
-      → IfSome told (λ files. Answers (IsOutcome files words) (Err r) faults faults held held ⊎ IsReadFault files (asked_of_words words) (Err r) read read' held held)
-  unread_answers None r read read' faults held are reached rose = tt
-  unread_answers (Some files) r read read' faults held are reached rose = unread_answer files r read read' faults held are reached rose
+      → IfSome told (λ files. Answers (IsOutcome files words) report (Err r) faults faults held held ⊎ IsReadFault files (asked_of_words words) (Err r) read read' held held)
+  unread_answers None report r read read' faults held are reached rose = tt
+  unread_answers (Some files) report r read read' faults held are reached rose = unread_answer files report r read read' faults held are reached rose
 
 -- What is said on `err`.
 
@@ -200,11 +287,20 @@ said_write r status faults faults' held held' is said = subst (λ (s : Refusal).
 
 -- How the call ends, where the files are told.
 
-pub told_refused : (told : Option Files) (words : List (List ℕ)) (before after : Outside) (r : Refusal) (status : ℕ)
-    → IfSome told (λ files. Answers (IsOutcome files words) (Err r) before.out_faults after.out_faults before.out after.out
+pub told_refused : (told : Option Files) (words : List (List ℕ)) (before after : Outside) (report : List ℕ) (r : Refusal) (status : ℕ)
+    → IfSome told (λ files. Answers (IsOutcome files words) report (Err r) before.out_faults after.out_faults before.out after.out
     ⊎ IsReadFault files (asked_of_words words) (Err r) before.read_faults after.read_faults before.out after.out)
     → Concerns (asked_of_words words) r
     → IsTold r status before.err_faults after.err_faults before.err after.err
     → IfSome told (λ files. Ends files words status before after)
-told_refused None words before after r status answers c told = tt
-told_refused (Some files) words before after r status answers c told = ends_refused before after files words r status answers c told
+told_refused None words before after report r status answers c told = tt
+told_refused (Some files) words before after report r status answers c told = ends_refused before after files words report r status answers c told
+
+pub told_well : (told : Option Files) (words : List (List ℕ)) (before after : Outside) (report : List ℕ) (unit : Unit {0}) (status : ℕ)
+    → IfSome told (λ files. Answers (IsOutcome files words) report (Ok unit) before.out_faults after.out_faults before.out after.out
+    ⊎ IsReadFault files (asked_of_words words) (Ok unit) before.read_faults after.read_faults before.out after.out)
+    → IsToldOf (asked_of_words words) report
+    → IsReportTold report status before.err_faults after.err_faults before.err after.err
+    → IfSome told (λ files. Ends files words status before after)
+told_well None words before after report unit status answers is told = tt
+told_well (Some files) words before after report unit status answers is told = ends_well before after files words report unit status answers is told

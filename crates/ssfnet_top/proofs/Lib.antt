@@ -1,3 +1,4 @@
+pub mod Acting
 pub mod CountLines
 pub mod Endings
 pub mod FaultPlaces
@@ -7,6 +8,7 @@ pub mod NoFiles
 pub mod OneOutcome
 pub mod Pieces
 pub mod RunOutcome
+pub mod Reports
 pub mod Running
 pub mod Weights
 pub mod Worked

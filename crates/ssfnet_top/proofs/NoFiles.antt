@@ -15,6 +15,7 @@ use Rattle.ssfnet_top.specs.declared.refusal.Refusal.{Refusal}
 use Rattle.ssfnet_top.specs.declared.refusal.Refusal.TheVariants as refusal
 use Rattle.ssfnet_top.specs.Outcome.{Due, done, AreRead, IsText, IsCommandDue, IsTreeDue, IsAskedDue, IsOutcome}
 use Rattle.ssfnet_top.specs.Ending.{Answers, Generates, HasGenerated, IsHalt, due_of}
+use Rattle.ssfnet_top.proofs.Endings.{ok_err}
 
 both : (a b : Bool) → (a && b) ≡ true → (a ≡ true) × (b ≡ true)
 both true b is = (refl, is)
@@ -23,9 +24,6 @@ both false b is = let differ : ◌≡◌ {A = Bool} false true = is in absurd (c
 -- words that ask for a campus have no names of files among them
 abbrev no_files : List Text → Option CommandName → Type 0
 no_files words o = (asked : Asked) (seed size : ℕ) → option_map (λ name. asked_by name words) o ≡ Some asked → asked.command ≡ commands.Gen seed size → asked.files ≡ []
-
-ok_err : (unit : Unit {0}) (r : Refusal) → ◌≡◌ {A = Result (Unit {0}) Refusal} (Ok unit) (Err r) → ⊥
-ok_err unit r is = cc
 
 none_some : (asked : Asked) → ◌≡◌ {A = Option Asked} None (Some asked) → ⊥
 none_some asked is = cc
@@ -98,45 +96,45 @@ campus_outcome files words asked seed size is gen =
     let due : Due = done (campus_text seed size) in
     let tree : Result Attributes Refusal = Ok none in
     let read : AreRead files 0 asked.files tree = subst (λ (l : List Text). AreRead files 0 l tree) (sym (gen_has_no_files words asked seed size is gen)) refl in
-    let asks : IsTreeDue asked tree due = subst (λ (c : Command). IsCommandDue c asked.files none due) (sym gen) refl in
+    let asks : IsTreeDue asked tree due = subst (λ (c : Command). IsCommandDue c asked none due) (sym gen) refl in
     subst (λ (o : Option Asked). IsAskedDue files o due) (sym is) (tree, read, asks)
 
 -- what `gen` writes where all went well
 
-text_written : (due text : List ℕ) (answer : Result (Unit {0}) Refusal) (faults faults' : ℕ) (held held' : Option (List ℕ))
-    → IsText (Ok due) (due_of answer text) → Appends text held held' → OnOk answer (Appends due held held')
-text_written due text (Ok unit) faults faults' held held' is all =
+text_written : (due report text : List ℕ) (answer : Result (Unit {0}) Refusal) (faults faults' : ℕ) (held held' : Option (List ℕ))
+    → IsText (Ok due) (due_of report answer text) → Appends text held held' → OnOk answer (Appends due held held')
+text_written due report text (Ok unit) faults faults' held held' is all =
     let out : text ≡ due = ap (λ (d : Due). d.out) is in
     subst (λ (t : List ℕ). Appends t held held') out all
-text_written due text (Err r) faults faults' held held' is all = tt
+text_written due report text (Err r) faults faults' held held' is all = tt
 
 not_halted : (answer : Result (Unit {0}) Refusal) (faults faults' : ℕ) (P : Type 0) → IsHalt answer faults faults' → OnOk answer P
 not_halted (Ok unit) faults faults' P (inl is) = absurd (ok_err unit refusal.Memory is)
 not_halted (Ok unit) faults faults' P (inr is) = absurd (ok_err unit refusal.Write is.0)
 not_halted (Err r) faults faults' P halt = tt
 
-all_written : (due : List ℕ) (answer : Result (Unit {0}) Refusal) (faults faults' : ℕ) (held held' : Option (List ℕ))
-    → Answers (IsText (Ok due)) answer faults faults' held held' → OnOk answer (Appends due held held')
-all_written due answer faults faults' held held' (inl (text, is, all)) = text_written due text answer faults faults' held held' is all
-all_written due answer faults faults' held held' (inr (inl (other, is, halt, part))) = not_halted answer faults faults' (Appends due held held') halt
-all_written due answer faults faults' held held' (inr (inr (is, nothing))) = not_halted answer faults faults' (Appends due held held') (inl is)
+all_written : (due report : List ℕ) (answer : Result (Unit {0}) Refusal) (faults faults' : ℕ) (held held' : Option (List ℕ))
+    → Answers (IsText (Ok due)) report answer faults faults' held held' → OnOk answer (Appends due held held')
+all_written due report answer faults faults' held held' (inl (text, is, all)) = text_written due report text answer faults faults' held held' is all
+all_written due report answer faults faults' held held' (inr (inl (other, is, halt, part))) = not_halted answer faults faults' (Appends due held held') halt
+all_written due report answer faults faults' held held' (inr (inr (is, nothing))) = not_halted answer faults faults' (Appends due held held') (inl is)
 
 on_ok : (answer : Result (Unit {0}) Refusal) → OnOk answer (Unit {0})
 on_ok (Ok unit) = tt
 on_ok (Err r) = tt
 
-generates : (command : Command) (names : List (List ℕ)) (tree : Attributes) (answer : Result (Unit {0}) Refusal) (faults faults' : ℕ) (held held' : Option (List ℕ))
-    → Answers (IsCommandDue command names tree) answer faults faults' held held' → OnOk answer (Generates command held held')
-generates (commands.Dml flat) names tree answer faults faults' held held' answers = on_ok answer
-generates commands.Check names tree answer faults faults' held held' answers = on_ok answer
-generates commands.Plan names tree answer faults faults' held held' answers = on_ok answer
-generates (commands.Seq until budget) names tree answer faults faults' held held' answers = on_ok answer
-generates (commands.Step until budget aligned threshold) names tree answer faults faults' held held' answers = on_ok answer
-generates (commands.Run until budget aligned threshold workers) names tree answer faults faults' held held' answers = on_ok answer
-generates (commands.Gen seed size) names tree answer faults faults' held held' answers = all_written (campus_text seed size) answer faults faults' held held' answers
+generates : (command : Command) (asked : Asked) (tree : Attributes) (report : List ℕ) (answer : Result (Unit {0}) Refusal) (faults faults' : ℕ) (held held' : Option (List ℕ))
+    → Answers (IsCommandDue command asked tree) report answer faults faults' held held' → OnOk answer (Generates command held held')
+generates (commands.Dml flat) asked tree report answer faults faults' held held' answers = on_ok answer
+generates commands.Check asked tree report answer faults faults' held held' answers = on_ok answer
+generates commands.Plan asked tree report answer faults faults' held held' answers = on_ok answer
+generates (commands.Seq until budget) asked tree report answer faults faults' held held' answers = on_ok answer
+generates (commands.Step until budget aligned threshold) asked tree report answer faults faults' held held' answers = on_ok answer
+generates (commands.Run until budget aligned threshold workers) asked tree report answer faults faults' held held' answers = on_ok answer
+generates (commands.Gen seed size) asked tree report answer faults faults' held held' answers = all_written (campus_text seed size) report answer faults faults' held held' answers
 
-pub campus_written : (o : Option Asked) (asked : Asked) (names : List (List ℕ)) (tree : Attributes) (answer : Result (Unit {0}) Refusal) (faults faults' : ℕ) (held held' : Option (List ℕ))
-    → o ≡ Some asked → Answers (IsCommandDue asked.command names tree) answer faults faults' held held' → OnOk answer (HasGenerated o held held')
-campus_written o asked names tree answer faults faults' held held' is answers =
-    let written : OnOk answer (HasGenerated (Some asked) held held') = generates asked.command names tree answer faults faults' held held' answers in
+pub campus_written : (o : Option Asked) (asked : Asked) (tree : Attributes) (report : List ℕ) (answer : Result (Unit {0}) Refusal) (faults faults' : ℕ) (held held' : Option (List ℕ))
+    → o ≡ Some asked → Answers (IsCommandDue asked.command asked tree) report answer faults faults' held held' → OnOk answer (HasGenerated o held held')
+campus_written o asked tree report answer faults faults' held held' is answers =
+    let written : OnOk answer (HasGenerated (Some asked) held held') = generates asked.command asked tree report answer faults faults' held held' answers in
     subst (λ (p : Option Asked). OnOk answer (HasGenerated p held held')) (sym is) written

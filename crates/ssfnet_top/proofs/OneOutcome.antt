@@ -38,7 +38,7 @@ use Rattle.command_words.specs.declared.command.Command.{Command}
 use Rattle.command_words.specs.declared.command.Command.TheVariants as commands
 use Rattle.ssfnet_top.specs.declared.refusal.Refusal.{Refusal}
 use Rattle.command_words.specs.Words.{Asked, asked_of_words}
-use Rattle.ssfnet_top.specs.Outcome.{Due, done, meant, IsRead, AreRead, resolved_of, shaped, unless, planned_network, counts_of, IsText, IsNetworkPlan, IsPlanIn, IsPlan, HasEvents, IsWithin, IsOver, IsRunDue, IsRingRun, IsNetworkRun, IsRunIn, IsModelRun, IsPrinted, IsCommandDue, IsTreeDue, IsAskedDue, IsOutcome}
+use Rattle.ssfnet_top.specs.Outcome.{Due, done, done_with, report_if, meant, IsRead, AreRead, resolved_of, shaped, unless, planned_network, counts_of, IsText, IsNetworkPlan, IsPlanIn, IsPlan, HasEvents, IsWithin, IsOver, IsRunDue, IsRingRun, IsNetworkRun, IsRunIn, IsModelRun, IsPrinted, IsCommandDue, IsTreeDue, IsAskedDue, IsOutcome}
 
 -- a file has one reading
 read_once : (name : List ℕ) (number : ℕ) (o : Option (List ℕ)) (a b : Result Attributes Refusal) → IsRead name number o a → IsRead name number o b → a ≡ b
@@ -86,12 +86,12 @@ module _ {B S P : Type 0} (r : Reaction S P) (plan : Plan B S P) (until R : ℕ)
     ]
   ]
 
-  module _ (names : Names) (budget : ℕ) (due other : Due) where
-    run_once : IsWithin r plan names until budget R due ⊎ IsOver r plan names until budget R due
-        → IsWithin r plan names until budget R other ⊎ IsOver r plan names until budget R other → due ≡ other
+  module _ (names : Names) (budget : ℕ) (wanted : Bool) (due other : Due) where
+    run_once : IsWithin r plan names until budget wanted R due ⊎ IsOver r plan names until budget R due
+        → IsWithin r plan names until budget wanted R other ⊎ IsOver r plan names until budget R other → due ≡ other
     run_once (inl p) (inl q) =
         let same : p.count ≡ q.count = count_once p.count q.count p.events q.events in
-        p.whole ∙ (ap (λ (n : ℕ). done (trace_text names (run_entries r plan until (within R) n) until (plan.before + n))) same ∙ sym q.whole)
+        p.whole ∙ (ap (λ (n : ℕ). done_with (report_if wanted (run_entries r plan until (within R) n)) (trace_text names (run_entries r plan until (within R) n) until (plan.before + n))) same ∙ sym q.whole)
     run_once (inl p) (inr q) = absurd (let low = before_no_more budget p.count q.more p.events.no_more in let few = p.few in omega arith)
     run_once (inr p) (inl q) = absurd (let low = before_no_more budget q.count p.more q.events.no_more in let few = q.few in omega arith)
     run_once (inr p) (inr q) = p.first ∙ sym q.first
@@ -128,46 +128,46 @@ plan_once (Ok tree) due other p q = plan_in_once (has_net (attributes tree)) tre
 plan_once (Err r) due other p q = p ∙ sym q
 
 -- a ring has one run
-ring_run_once : (until budget : ℕ) (r : Read (Built Ring RingState RingPayload)) (due other : Due) → IsRingRun until budget r due → IsRingRun until budget r other → due ≡ other
-ring_run_once until budget (Ok built) due other p q =
+ring_run_once : (until budget : ℕ) (wanted : Bool) (r : Read (Built Ring RingState RingPayload)) (due other : Due) → IsRingRun until budget wanted r due → IsRingRun until budget wanted r other → due ≡ other
+ring_run_once until budget wanted (Ok built) due other p q =
     let here : budget ≤ budget = omega arith in
-    run_once ring_reaction built.plan until budget built.names budget due other (p budget here) (q budget here)
-ring_run_once until budget (Err fault) due other p q = p ∙ sym q
+    run_once ring_reaction built.plan until budget built.names budget wanted due other (p budget here) (q budget here)
+ring_run_once until budget wanted (Err fault) due other p q = p ∙ sym q
 
 -- so has a network of hosts, which has one plan and one list of names
 names_same : (a b : Names) → a.names ≡ b.names → a ≡ b
 names_same a b same = ap (λ (names : List (List ℕ)). record { names = names }) same
 
-network_run_once : (until budget : ℕ) (r : Read Network) (due other : Due) → IsNetworkRun until budget r due → IsNetworkRun until budget r other → due ≡ other
-network_run_once until budget (Ok network) due other p q =
+network_run_once : (until budget : ℕ) (wanted : Bool) (r : Read Network) (due other : Due) → IsNetworkRun until budget wanted r due → IsNetworkRun until budget wanted r other → due ≡ other
+network_run_once until budget wanted (Ok network) due other p q =
     let here : budget ≤ budget = omega arith in
     let plan : p.0.plan ≡ q.0.plan = plans_one (record {}) network p.0.plan q.0.plan p.1.plan q.1.plan in
     let names : p.0.names ≡ q.0.names = names_same p.0.names q.0.names (p.1.names ∙ sym q.1.names) in
-    let run : IsRunDue host_reaction q.0.plan q.0.names until budget due =
-    subst (λ (n : Names). IsRunDue host_reaction q.0.plan n until budget due) names
-    (subst (λ (l : Plan Host HostFields PacketFields). IsRunDue host_reaction l p.0.names until budget due) plan p.2) in
-    run_once host_reaction q.0.plan until budget q.0.names budget due other (run budget here) (q.2 budget here)
-network_run_once until budget (Err fault) due other p q = p ∙ sym q
+    let run : IsRunDue host_reaction q.0.plan q.0.names until budget wanted due =
+    subst (λ (n : Names). IsRunDue host_reaction q.0.plan n until budget wanted due) names
+    (subst (λ (l : Plan Host HostFields PacketFields). IsRunDue host_reaction l p.0.names until budget wanted due) plan p.2) in
+    run_once host_reaction q.0.plan until budget q.0.names budget wanted due other (run budget here) (q.2 budget here)
+network_run_once until budget wanted (Err fault) due other p q = p ∙ sym q
 
-run_in_once : (until budget : ℕ) (is_net : Bool) (root : List Attribute) (due other : Due) → IsRunIn until budget is_net root due → IsRunIn until budget is_net root other → due ≡ other
-run_in_once until budget true root due other p q = network_run_once until budget (planned_network root) due other p q
-run_in_once until budget false root due other p q = ring_run_once until budget (ring_plan_of root) due other p q
+run_in_once : (until budget : ℕ) (wanted : Bool) (is_net : Bool) (root : List Attribute) (due other : Due) → IsRunIn until budget wanted is_net root due → IsRunIn until budget wanted is_net root other → due ≡ other
+run_in_once until budget wanted true root due other p q = network_run_once until budget wanted (planned_network root) due other p q
+run_in_once until budget wanted false root due other p q = ring_run_once until budget wanted (ring_plan_of root) due other p q
 
-model_run_once : (until budget : ℕ) (tree : Result Attributes Refusal) (due other : Due) → IsModelRun until budget tree due → IsModelRun until budget tree other → due ≡ other
-model_run_once until budget (Ok tree) due other p q = run_in_once until budget (has_net (attributes tree)) (attributes tree) due other p q
-model_run_once until budget (Err r) due other p q = p ∙ sym q
+model_run_once : (until budget : ℕ) (wanted : Bool) (tree : Result Attributes Refusal) (due other : Due) → IsModelRun until budget wanted tree due → IsModelRun until budget wanted tree other → due ≡ other
+model_run_once until budget wanted (Ok tree) due other p q = run_in_once until budget wanted (has_net (attributes tree)) (attributes tree) due other p q
+model_run_once until budget wanted (Err r) due other p q = p ∙ sym q
 
-command_once : (command : Command) (names : List (List ℕ)) (tree : Attributes) (due other : Due) → IsCommandDue command names tree due → IsCommandDue command names tree other → due ≡ other
-command_once (commands.Dml false) names tree due other p q = p ∙ sym q
-command_once (commands.Dml true) names tree due other p q = printed_once (resolved_of names tree) due other p q
-command_once commands.Check names tree due other p q = text_once (counts_of (resolved_of names tree)) due other p q
-command_once commands.Plan names tree due other p q = plan_once (resolved_of names tree) due other p q
-command_once (commands.Seq until budget) names tree due other p q = model_run_once until budget (resolved_of names tree) due other p q
-command_once (commands.Gen seed size) names tree due other p q = p ∙ sym q
-command_once _ names tree due other p q = absurd p
+command_once : (command : Command) (asked : Asked) (tree : Attributes) (due other : Due) → IsCommandDue command asked tree due → IsCommandDue command asked tree other → due ≡ other
+command_once (commands.Dml false) asked tree due other p q = p ∙ sym q
+command_once (commands.Dml true) asked tree due other p q = printed_once (resolved_of asked.files tree) due other p q
+command_once commands.Check asked tree due other p q = text_once (counts_of (resolved_of asked.files tree)) due other p q
+command_once commands.Plan asked tree due other p q = plan_once (resolved_of asked.files tree) due other p q
+command_once (commands.Seq until budget) asked tree due other p q = model_run_once until budget asked.report (resolved_of asked.files tree) due other p q
+command_once (commands.Gen seed size) asked tree due other p q = p ∙ sym q
+command_once _ asked tree due other p q = absurd p
 
 tree_once : (asked : Asked) (tree : Result Attributes Refusal) (due other : Due) → IsTreeDue asked tree due → IsTreeDue asked tree other → due ≡ other
-tree_once asked (Ok tree) due other p q = command_once asked.command asked.files tree due other p q
+tree_once asked (Ok tree) due other p q = command_once asked.command asked tree due other p q
 tree_once asked (Err r) due other p q = p ∙ sym q
 
 asked_once : (files : Files) (asked : Option Asked) (due other : Due) → IsAskedDue files asked due → IsAskedDue files asked other → due ≡ other

@@ -12,7 +12,7 @@ use Rattle.ssf_model.specs.Reaction.{Reaction}
 use Rattle.ssf_model.specs.Run.{States, machine_of, run_event, run_entries, entries_from, entry_at}
 use Rattle.trace_writer.specs.Trace.{entries_text, trace_text}
 use Rattle.ssfnet_top.specs.declared.refusal.Refusal.TheVariants as refusal
-use Rattle.ssfnet_top.specs.Outcome.{done, refused, IsRunDue}
+use Rattle.ssfnet_top.specs.Outcome.{done_with, report_if, refused, IsRunDue}
 
 most_one : {T U : Type 0} (f : T → U) (o : Option T) → length (option_list (option_map f o)) ≤ 1
 most_one f None = omega arith
@@ -44,21 +44,24 @@ module _ {B S P : Type 0} (r : Reaction S P) (ms : List Mapping) (until : ℕ) (
             subst Q (sym e) (one_there (entry_at r (after (machine_of r ms) until kept w n).state.entities) (event (machine_of r ms) until kept w n) (omega arith))
       ]
 
-module _ {B S P : Type 0} (r : Reaction S P) (plan : Plan B S P) (names : Names) (until budget : ℕ) (entries : List Entry) where
+done_by : (report report' text text' : List ℕ) → report ≡ report' → text ≡ text' → done_with report text ≡ done_with report' text'
+done_by report report' text text' same is = ap (λ (t : List ℕ). done_with report t) is ∙ ap (λ (t : List ℕ). done_with t text') same
+
+module _ {B S P : Type 0} (r : Reaction S P) (plan : Plan B S P) (names : Names) (until budget : ℕ) (wanted : Bool) (entries : List Entry) where
   -- entries of a run that has no further event are its whole trace
-  pub whole_due : (text : List ℕ) (count : ℕ) → length entries ≤ budget
+  pub whole_due : (report text : List ℕ) (count : ℕ) → length entries ≤ budget
       → ((R : ℕ) → budget ≤ R → entries ≡ run_entries r plan until (within R) (length entries))
       → ((R : ℕ) → budget ≤ R → run_event r plan until (within R) (length entries) ≡ None)
-      → count ≡ plan.before + length entries → text ≡ trace_text names entries until count
-      → IsRunDue r plan names until budget (done text)
-  whole_due text count few prefix no_more count_is text_is = λ R reached. inl (record {
+      → count ≡ plan.before + length entries → text ≡ trace_text names entries until count → report ≡ report_if wanted entries
+      → IsRunDue r plan names until budget wanted (done_with report text)
+  whole_due report text count few prefix no_more count_is text_is report_is = λ R reached. inl (record {
     count = length entries;
     few = few;
     events = record {
       each = λ k below. all_there r plan.mappings until (within R) _ (length entries) (sym (ap (λ (es : List Entry). length es) (prefix R reached))) k below;
       no_more = no_more R reached;
     };
-    whole = ap (λ (t : List ℕ). done t) (text_is ∙ (ap (λ (n : ℕ). trace_text names entries until n) count_is
+    whole = done_by report _ text _ (report_is ∙ ap (λ (es : List Entry). report_if wanted es) (prefix R reached)) (text_is ∙ (ap (λ (n : ℕ). trace_text names entries until n) count_is
         ∙ ap (λ (es : List Entry). trace_text names es until (plan.before + length entries)) (prefix R reached)));
   })
 
@@ -67,7 +70,7 @@ module _ {B S P : Type 0} (r : Reaction S P) (plan : Plan B S P) (names : Names)
       → ((R : ℕ) → budget ≤ R → entries ≡ run_entries r plan until (within R) (length entries))
       → ((R : ℕ) → budget ≤ R → IsSome (run_event r plan until (within R) budget))
       → text ≡ entries_text names entries
-      → IsRunDue r plan names until budget (refused (refusal.Budget budget) text)
+      → IsRunDue r plan names until budget wanted (refused (refusal.Budget budget) text)
   first_due text full prefix more text_is = λ R reached. inr (record {
     more = more R reached;
     first = ap (λ (t : List ℕ). refused (refusal.Budget budget) t) (text_is

@@ -1,5 +1,5 @@
 -- How a call ends, measured by what is due: all of it, a part of it, or nothing.
-use Rattle.std.specs.Prelude.{ℕ, ◌≡◌, ◌+◌, ◌⊎◌, true, List, [], ◌∷◌, Contains, Option, Some, None, IsSome, Result, Ok, Err}
+use Rattle.std.specs.Prelude.{ℕ, ◌≡◌, ◌+◌, ◌⊎◌, Bool, true, false, List, [], ◌∷◌, Contains, Option, Some, None, IsSome, Result, Ok, Err}
 use Rattle.std.specs.Option.{IsSomeAnd}
 use Rattle.sim_base.specs.Outside.{Files, Rose, Appends, AppendsPrefix}
 use Rattle.dml_tree.specs.Attributes.{Attributes}
@@ -7,6 +7,8 @@ use Rattle.dml_tree.specs.declared.reading.TreeFault.TheVariants as tree_fault
 use Rattle.dml_resolve.specs.declared.resolving.PathFault.{PathFault}
 use Rattle.dml_resolve.specs.declared.resolving.PathFault.TheVariants as path_fault
 use Rattle.net_graph.specs.declared.fault.ShapeFault.TheVariants as shape_fault
+use Rattle.ssf_model.specs.declared.event.Entry.{Entry}
+use Rattle.trace_writer.specs.Report.{report_of}
 use Rattle.model_gen.specs.Campus.{campus_text}
 use Rattle.command_words.specs.declared.command.Command.{Command}
 use Rattle.command_words.specs.declared.command.Command.TheVariants as commands
@@ -15,7 +17,7 @@ use Rattle.ssfnet_top.specs.declared.refusal.Refusal.TheVariants as refusal
 use Rattle.ssfnet_top.specs.Refusals.{status_of}
 use Rattle.ssfnet_top.specs.FilePlaces.{IsPlaced}
 use Rattle.command_words.specs.Words.{Asked, asked_of_words}
-use Rattle.ssfnet_top.specs.Outcome.{Due, done, refused, refusal_line, file_of_fault, IsFileRead, IsOutcome}
+use Rattle.ssfnet_top.specs.Outcome.{Due, done_with, refused, refusal_line, file_of_fault, IsFileRead, IsOutcome}
 
 -- a file of this name is one of the command's
 abbrev pub IsFileOf : Option Asked → List ℕ → Type 0
@@ -66,6 +68,41 @@ abbrev pub HasGenerated : Option Asked → Option (List ℕ) → Option (List �
 HasGenerated None held held' = Unit {0}
 HasGenerated (Some asked) held held' = Generates asked.command held held'
 
+-- What is written on `err` where a command ends well, whatever the files are.
+
+-- the report of some events where one is wanted, and else nothing
+abbrev pub IsReport : Bool → List ℕ → Type 0
+IsReport true text = (entries : List Entry) × (text ≡ report_of entries)
+IsReport false text = text ≡ []
+
+-- what a command tells there: `seq` a report where one is wanted, and the others nothing
+abbrev pub Tells : Command → Bool → List ℕ → Type 0
+Tells (commands.Dml flat) wanted text = text ≡ []
+Tells commands.Check wanted text = text ≡ []
+Tells commands.Plan wanted text = text ≡ []
+Tells (commands.Seq until budget) wanted text = IsReport wanted text
+Tells (commands.Gen seed size) wanted text = text ≡ []
+-- no words ask for the commands that have not landed
+Tells _ wanted text = ⊥
+
+-- what is told there of these words
+abbrev pub IsToldOf : Option Asked → List ℕ → Type 0
+IsToldOf None text = ⊥
+IsToldOf (Some asked) text = Tells asked.command asked.report text
+
+-- a report is wanted
+abbrev pub WantsReport : Option Asked → Type 0
+WantsReport asked = IsSomeAnd asked (λ a. a.report ≡ true)
+
+-- all of it was written
+abbrev pub HasTold : Option Asked → Option (List ℕ) → Option (List ℕ) → Type 0
+HasTold asked held held' = (text : List ℕ) × IsToldOf asked text × Appends text held held'
+
+-- a report that is wanted was cut short, for `err` failed
+abbrev pub IsReportCut : Option Asked → ℕ → ℕ → Option (List ℕ) → Option (List ℕ) → Type 0
+IsReportCut asked faults faults' held held' =
+    (text : List ℕ) × IsToldOf asked text × WantsReport asked × Rose faults faults' × AppendsPrefix text held held'
+
 -- What is seen of the outside: how often the library, `out` and `err` failed, and the bytes that `out` and `err` hold
 -- where they are told.
 pub record Outside : Type 0 where
@@ -101,6 +138,19 @@ pub record IsCutShort (asked : Option Asked) (due : Due) (status : ℕ) (before 
   pub stopped : IsStopped asked status before after
   pub out : AppendsPrefix due.out before.out after.out
 
+-- all that is due on `out` was written, and of the report that is wanted a part, from its beginning
+pub record IsUnreported (asked : Option Asked) (due : Due) (status : ℕ) (before after : Outside) : Type 0 where
+  pub wanted : WantsReport asked
+  pub well : due.status ≡ 0
+  pub status_is : status ≡ 7
+  pub rose : Rose before.err_faults after.err_faults
+  pub out : Appends due.out before.out after.out
+  pub err : AppendsPrefix due.err before.err after.err
+
+-- what is due was written; or some of it; or all of it but for the report
+abbrev pub IsDone : Option Asked → Due → ℕ → Outside → Outside → Type 0
+IsDone asked due status before after = IsMet due status before after ⊎ (IsCutShort asked due status before after ⊎ IsUnreported asked due status before after)
+
 -- Of files with these names, numbered from `number` on, one of this name is reached: each file before it spells a tree.
 abbrev pub IsReached : Files → ℕ → List (List ℕ) → List ℕ → Type 0
 IsReached files number [] name = ⊥
@@ -127,7 +177,7 @@ pub record IsNothing (files : Files) (asked : Option Asked) (status : ℕ) (befo
 -- A call with these words and these files ended with this status.
 abbrev pub Ends : Files → List (List ℕ) → ℕ → Outside → Outside → Type 0
 Ends files words status before after =
-    ((due : Due) × IsOutcome files words due × (IsMet due status before after ⊎ IsCutShort (asked_of_words words) due status before after))
+    ((due : Due) × IsOutcome files words due × IsDone (asked_of_words words) due status before after)
     ⊎ IsNothing files (asked_of_words words) status before after
 
 -- Within a call, where files of these names are read: what a refusal may be.
@@ -176,19 +226,19 @@ IsOfRun budget (refusal.Budget most) = most ≡ budget
 
 -- Within a call, where the text of an outcome is written to a sink.
 
--- the outcome that an answer and the bytes written stand for
-abbrev pub due_of : Result (Unit {0}) Refusal → List ℕ → Due
-due_of (Ok unit) text = done text
-due_of (Err r) text = refused r text
+-- the outcome that an answer, the report made and the bytes written stand for
+abbrev pub due_of : List ℕ → Result (Unit {0}) Refusal → List ℕ → Due
+due_of report (Ok unit) text = done_with report text
+due_of report (Err r) text = refused r text
 
 -- want of memory, or a failed write
 abbrev pub IsHalt : Result (Unit {0}) Refusal → ℕ → ℕ → Type 0
 IsHalt answer faults faults' = (answer ≡ Err refusal.Memory) ⊎ ((answer ≡ Err refusal.Write) × Rose faults faults')
 
 -- all that is due was written; or a part of it; or nothing, for want of memory
-abbrev pub Answers : (Due → Type 0) → Result (Unit {0}) Refusal → ℕ → ℕ → Option (List ℕ) → Option (List ℕ) → Type 0
-Answers IsDue answer faults faults' held held' =
-    ((text : List ℕ) × IsDue (due_of answer text) × Appends text held held')
+abbrev pub Answers : (Due → Type 0) → List ℕ → Result (Unit {0}) Refusal → ℕ → ℕ → Option (List ℕ) → Option (List ℕ) → Type 0
+Answers IsDue report answer faults faults' held held' =
+    ((text : List ℕ) × IsDue (due_of report answer text) × Appends text held held')
     ⊎ (((due : Due) × IsDue due × IsHalt answer faults faults' × AppendsPrefix due.out held held')
     ⊎ ((answer ≡ Err refusal.Memory) × Appends [] held held'))
 
@@ -204,3 +254,8 @@ IsTold r status faults faults' held held' =
     ((status ≡ status_of r) × Appends (refusal_line r) held held')
     ⊎ (((status ≡ 1) × ¬ (r ≡ refusal.Write) × Appends (refusal_line refusal.Memory) held held')
     ⊎ ((status ≡ 7) × Rose faults faults' × (AppendsPrefix (refusal_line r) held held' ⊎ AppendsPrefix (refusal_line refusal.Memory) held held')))
+
+-- the report made was written on `err`, or there is none; or `err` failed, and it was cut short
+abbrev pub IsReportTold : List ℕ → ℕ → ℕ → ℕ → Option (List ℕ) → Option (List ℕ) → Type 0
+IsReportTold report status faults faults' held held' =
+    ((status ≡ 0) × Appends report held held') ⊎ ((status ≡ 7) × ¬ (report ≡ []) × Rose faults faults' × AppendsPrefix report held held')

@@ -1,6 +1,6 @@
 -- What a command is to answer, by its words and the told files alone: the status, and the bytes that are due on
 -- `out` and on `err`.
-use Rattle.std.specs.Prelude.{ℕ, ◌≡◌, ◌+◌, ◌<◌, ◌≤◌, ◌⊎◌, Bool, true, false, slice_index_or, List, [], ◌∷◌, ◌++◌, Option, Some, None, IsSome, Result, Ok, Err}
+use Rattle.std.specs.Prelude.{ℕ, ◌≡◌, ◌+◌, ◌<◌, ◌≤◌, ◌⊎◌, Bool, true, false, slice_index_or, List, [], ◌∷◌, ◌++◌, Option, Some, None, IsSome, option_map, map, string_bytes, Result, Ok, Err}
 use Rattle.sim_base.specs.Outside.{Files}
 use Rattle.dml_tree.specs.declared.tree.Attribute.{Attribute}
 use Rattle.dml_tree.specs.Attributes.{Attributes, none}
@@ -30,14 +30,17 @@ use Rattle.ring_model.specs.declared.ring.RingState.{RingState}
 use Rattle.ring_model.specs.declared.ring.RingPayload.{RingPayload}
 use Rattle.ring_model.specs.Reacting.{ring_reaction}
 use Rattle.event_order.specs.Machine.{within}
+use Rattle.ssf_model.specs.declared.event.Entry.{Entry}
 use Rattle.ssf_model.specs.declared.event.Names.{Names}
 use Rattle.ssf_model.specs.declared.plan.Plan.{Plan}
 use Rattle.ssf_model.specs.Reaction.{Reaction}
 use Rattle.ssf_model.specs.Run.{run_event, run_entries}
+use Rattle.trace_writer.specs.Report.{report_of}
 use Rattle.trace_writer.specs.Trace.{entries_text, trace_text}
 use Rattle.model_gen.specs.Campus.{campus_text}
 use Rattle.command_words.specs.declared.command.Command.{Command}
 use Rattle.command_words.specs.declared.command.Command.TheVariants as commands
+use Rattle.command_words.specs.declared.words.Request.{Request}
 use Rattle.ssfnet_top.specs.declared.refusal.Refusal.{Refusal}
 use Rattle.ssfnet_top.specs.declared.refusal.Refusal.TheVariants as refusal
 use Rattle.ssfnet_top.specs.Refusals.{status_of, line_of}
@@ -54,9 +57,13 @@ pub record Due : Type 0 where
 abbrev pub refusal_line : Refusal → List ℕ
 refusal_line r = line_of r ++ 10 ∷ []
 
--- all went well, with this text
+-- all went well, with this report on `err`, and this text
+abbrev pub done_with : List ℕ → List ℕ → Due
+done_with report text = record { status = 0; out = text; err = report }
+
+-- all went well, with this text, and nothing on `err`
 abbrev pub done : List ℕ → Due
-done text = record { status = 0; out = text; err = [] }
+done text = done_with [] text
 
 -- it was refused, after this text
 abbrev pub refused : Refusal → List ℕ → Due
@@ -163,12 +170,17 @@ pub record HasEvents {B S P : Type 0} (r : Reaction S P) (plan : Plan B S P) (un
   pub each : (k : ℕ) → k < n → IsSome (run_event r plan until (within R) k)
   pub no_more : run_event r plan until (within R) n ≡ None
 
--- the run has at most `budget` events, and its whole trace is due
-pub record IsWithin {B S P : Type 0} (r : Reaction S P) (plan : Plan B S P) (names : Names) (until budget R : ℕ) (due : Due) : Type 0 where
+-- the report of these events, where one is wanted
+abbrev pub report_if : Bool → List Entry → List ℕ
+report_if true entries = report_of entries
+report_if false entries = []
+
+-- the run has at most `budget` events, and its whole trace is due, and the report of it where one is wanted
+pub record IsWithin {B S P : Type 0} (r : Reaction S P) (plan : Plan B S P) (names : Names) (until budget : ℕ) (wanted : Bool) (R : ℕ) (due : Due) : Type 0 where
   pub count : ℕ
   pub few : count ≤ budget
   pub events : HasEvents r plan until R count
-  pub whole : due ≡ done (trace_text names (run_entries r plan until (within R) count) until (plan.before + count))
+  pub whole : due ≡ done_with (report_if wanted (run_entries r plan until (within R) count)) (trace_text names (run_entries r plan until (within R) count) until (plan.before + count))
 
 -- the run has more events, and the records of the first `budget` ones are due
 pub record IsOver {B S P : Type 0} (r : Reaction S P) (plan : Plan B S P) (names : Names) (until budget R : ℕ) (due : Due) : Type 0 where
@@ -176,49 +188,59 @@ pub record IsOver {B S P : Type 0} (r : Reaction S P) (plan : Plan B S P) (names
   pub first : due ≡ refused (refusal.Budget budget) (entries_text names (run_entries r plan until (within R) budget))
 
 -- what is due of a run by one event list, whatever its cut, as long as the cut drops no round up to `budget`
-abbrev pub IsRunDue : {B S P : Type 0} → Reaction S P → Plan B S P → Names → ℕ → ℕ → Due → Type 0
-IsRunDue r plan names until budget due = (R : ℕ) → budget ≤ R → IsWithin r plan names until budget R due ⊎ IsOver r plan names until budget R due
+abbrev pub IsRunDue : {B S P : Type 0} → Reaction S P → Plan B S P → Names → ℕ → ℕ → Bool → Due → Type 0
+IsRunDue r plan names until budget wanted due =
+    (R : ℕ) → budget ≤ R → IsWithin r plan names until budget wanted R due ⊎ IsOver r plan names until budget R due
 
 -- The commands.
 
 -- the run of a ring's plan, or the first fault of the ring
-abbrev pub IsRingRun : ℕ → ℕ → Read (Built Ring RingState RingPayload) → Due → Type 0
-IsRingRun until budget (Ok built) due = IsRunDue ring_reaction built.plan built.names until budget due
-IsRingRun until budget (Err fault) due = due ≡ refused (refusal.Shape fault) []
+abbrev pub IsRingRun : ℕ → ℕ → Bool → Read (Built Ring RingState RingPayload) → Due → Type 0
+IsRingRun until budget wanted (Ok built) due = IsRunDue ring_reaction built.plan built.names until budget wanted due
+IsRingRun until budget wanted (Err fault) due = due ≡ refused (refusal.Shape fault) []
 
 -- the run of the plan of a network of hosts, or the first fault of the network
-abbrev pub IsNetworkRun : ℕ → ℕ → Read Network → Due → Type 0
-IsNetworkRun until budget (Ok network) due =
-    (built : Built Host HostFields PacketFields) × IsPlanOf network built × IsRunDue host_reaction built.plan built.names until budget due
-IsNetworkRun until budget (Err fault) due = due ≡ refused (refusal.Shape fault) []
+abbrev pub IsNetworkRun : ℕ → ℕ → Bool → Read Network → Due → Type 0
+IsNetworkRun until budget wanted (Ok network) due =
+    (built : Built Host HostFields PacketFields) × IsPlanOf network built × IsRunDue host_reaction built.plan built.names until budget wanted due
+IsNetworkRun until budget wanted (Err fault) due = due ≡ refused (refusal.Shape fault) []
 
 -- the run of a resolved tree, whose model is a Net or not
-abbrev pub IsRunIn : ℕ → ℕ → Bool → List Attribute → Due → Type 0
-IsRunIn until budget true root due = IsNetworkRun until budget (planned_network root) due
-IsRunIn until budget false root due = IsRingRun until budget (ring_plan_of root) due
+abbrev pub IsRunIn : ℕ → ℕ → Bool → Bool → List Attribute → Due → Type 0
+IsRunIn until budget wanted true root due = IsNetworkRun until budget wanted (planned_network root) due
+IsRunIn until budget wanted false root due = IsRingRun until budget wanted (ring_plan_of root) due
 
-abbrev pub IsModelRun : ℕ → ℕ → Result Attributes Refusal → Due → Type 0
-IsModelRun until budget (Ok tree) due = IsRunIn until budget (has_net (attributes tree)) (attributes tree) due
-IsModelRun until budget (Err r) due = due ≡ refused r []
+abbrev pub IsModelRun : ℕ → ℕ → Bool → Result Attributes Refusal → Due → Type 0
+IsModelRun until budget wanted (Ok tree) due = IsRunIn until budget wanted (has_net (attributes tree)) (attributes tree) due
+IsModelRun until budget wanted (Err r) due = due ≡ refused r []
 
 abbrev pub IsPrinted : Result Attributes Refusal → Due → Type 0
 IsPrinted (Ok tree) due = due ≡ done (printing 0 tree)
 IsPrinted (Err r) due = due ≡ refused r []
 
--- what a command has to do with the joined tree of files with these names; `gen` has no files, and asks nothing of
--- the tree
-abbrev pub IsCommandDue : Command → List (List ℕ) → Attributes → Due → Type 0
-IsCommandDue (commands.Dml false) names tree due = IsPrinted (Ok tree) due
-IsCommandDue (commands.Dml true) names tree due = IsPrinted (resolved_of names tree) due
-IsCommandDue commands.Check names tree due = IsText (counts_of (resolved_of names tree)) due
-IsCommandDue commands.Plan names tree due = IsPlan (resolved_of names tree) due
-IsCommandDue (commands.Seq until budget) names tree due = IsModelRun until budget (resolved_of names tree) due
-IsCommandDue (commands.Gen seed size) names tree due = IsText (Ok (campus_text seed size)) due
+-- what a request asks
+abbrev pub asked_of : Request → Asked
+asked_of request = record {
+  command = request.command;
+  schedule = option_map string_bytes request.schedule;
+  report = request.report;
+  files = map string_bytes request.files.items;
+}
+
+-- what a command has to do with the joined tree of the files, where this is asked; `gen` has no files, and asks
+-- nothing of the tree
+abbrev pub IsCommandDue : Command → Asked → Attributes → Due → Type 0
+IsCommandDue (commands.Dml false) asked tree due = IsPrinted (Ok tree) due
+IsCommandDue (commands.Dml true) asked tree due = IsPrinted (resolved_of asked.files tree) due
+IsCommandDue commands.Check asked tree due = IsText (counts_of (resolved_of asked.files tree)) due
+IsCommandDue commands.Plan asked tree due = IsPlan (resolved_of asked.files tree) due
+IsCommandDue (commands.Seq until budget) asked tree due = IsModelRun until budget asked.report (resolved_of asked.files tree) due
+IsCommandDue (commands.Gen seed size) asked tree due = IsText (Ok (campus_text seed size)) due
 -- no words ask for the commands that have not landed
-IsCommandDue _ names tree due = ⊥
+IsCommandDue _ asked tree due = ⊥
 
 abbrev pub IsTreeDue : Asked → Result Attributes Refusal → Due → Type 0
-IsTreeDue asked (Ok tree) due = IsCommandDue asked.command asked.files tree due
+IsTreeDue asked (Ok tree) due = IsCommandDue asked.command asked tree due
 IsTreeDue asked (Err r) due = due ≡ refused r []
 
 abbrev pub IsAskedDue : Files → Option Asked → Due → Type 0

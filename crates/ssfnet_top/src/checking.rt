@@ -33,7 +33,7 @@ pub fn print_counts<K: Sink>(
     out: &mut K,
 ) -> Result<(), Refusal>
     requires { ArePlaced (map string_bytes names.now) tree.now }
-    ensures due { Answers (IsText (counts_of (resolved_of (map string_bytes names.now) tree.now))) result (K.faults out.old) (K.faults out.new) (K.held out.old) (K.held out.new) }
+    ensures due { Answers (IsText (counts_of (resolved_of (map string_bytes names.now) tree.now))) [] result (K.faults out.old) (K.faults out.new) (K.held out.old) (K.held out.new) }
     ensures cause { IfErr result (λ r. IsOfCommand Command.Check (map string_bytes names.now) r) }
     ensures write { IfErr result (λ r. r ≡ Refusal.Write → Rose (K.faults out.old) (K.faults out.new)) }
     ensures nothing { IfErr result (λ r. IsOfModel (map string_bytes names.now) r → ¬ (r ≡ Refusal.Memory) → Appends [] (K.held out.old) (K.held out.new)) }

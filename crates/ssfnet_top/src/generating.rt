@@ -1,5 +1,5 @@
 //! The command `gen`: the text of a generated model.
-ghost use Rattle.std.specs.Prelude.{◌≡◌, ◌≤◌, ◌⊎◌, Ok, IfOk, IfErr};
+ghost use Rattle.std.specs.Prelude.{◌≡◌, ◌≤◌, ◌⊎◌, [], Ok, IfOk, IfErr};
 ghost use Rattle.sim_base.specs.Outside.{Rose};
 ghost use Rattle.model_gen.specs.Campus.{campus_text};
 ghost use Rattle.command_words.specs.Table.{LargestSize};
@@ -24,7 +24,7 @@ pub fn print_campus<K: Sink>(
 ) -> Result<(), Refusal>
     requires least { 1 ≤ size }
     requires most { size ≤ LargestSize }
-    ensures due { Answers (IsText (Ok (campus_text seed size))) result (K.faults out.old) (K.faults out.new) (K.held out.old) (K.held out.new) }
+    ensures due { Answers (IsText (Ok (campus_text seed size))) [] result (K.faults out.old) (K.faults out.new) (K.held out.old) (K.held out.new) }
     ensures cause { IfErr result (λ r. (r ≡ Refusal.Memory) ⊎ ((r ≡ Refusal.Write) × Rose (K.faults out.old) (K.faults out.new))) }
 {
     write_answer(text_of_campus(alloc, seed, size), out)

@@ -19,7 +19,7 @@ use std::alloc::Global;
 /// `Write` only where the sink's `faults` rose; `Memory`.
 pub fn print_tree<K: Sink>(alloc: Global, tree: &Tree, out: &mut K) -> Result<(), Refusal>
     ensures cause { IfErr result (λ r. (r ≡ Refusal.Memory) ⊎ ((r ≡ Refusal.Write) × Rose (K.faults out.old) (K.faults out.new))) }
-    ensures due { Answers (IsPrinted (Ok tree.now)) result (K.faults out.old) (K.faults out.new) (K.held out.old) (K.held out.new) }
+    ensures due { Answers (IsPrinted (Ok tree.now)) [] result (K.faults out.old) (K.faults out.new) (K.held out.old) (K.held out.new) }
 {
     let mut text = Vec::new(alloc);
     match write(tree, &mut text) {
@@ -42,7 +42,7 @@ pub fn print_resolved<K: Sink>(
     out: &mut K,
 ) -> Result<(), Refusal>
     requires { ArePlaced (map string_bytes names.now) tree.now }
-    ensures due { Answers (IsPrinted (resolved_of (map string_bytes names.now) tree.now)) result (K.faults out.old) (K.faults out.new) (K.held out.old) (K.held out.new) }
+    ensures due { Answers (IsPrinted (resolved_of (map string_bytes names.now) tree.now)) [] result (K.faults out.old) (K.faults out.new) (K.held out.old) (K.held out.new) }
     ensures cause { IfErr result (λ r. IsOfCommand (Command.Dml true) (map string_bytes names.now) r) }
     ensures write { IfErr result (λ r. r ≡ Refusal.Write → Rose (K.faults out.old) (K.faults out.new)) }
     ensures nothing { IfErr result (λ r. IsOfModel (map string_bytes names.now) r → ¬ (r ≡ Refusal.Memory) → Appends [] (K.held out.old) (K.held out.new)) }

@@ -5,9 +5,9 @@ ghost use Rattle.ssfnet_top.specs.declared.refusal.Refusal.{Refusal as RefusalVa
 ghost use Rattle.command_words.specs.Table.{MostFiles};
 ghost use Rattle.command_words.specs.Words.{asked_of_words, IsInRange, IsLanded};
 ghost use Rattle.ssfnet_top.specs.Refusals.{status_of, line_of};
-ghost use Rattle.ssfnet_top.specs.Outcome.{IsCommandDue, IsOutcome, refusal_line};
+ghost use Rattle.ssfnet_top.specs.Outcome.{asked_of, IsCommandDue, IsOutcome, refusal_line};
 ghost use Rattle.ssfnet_top.specs.FilePlaces.{ArePlaced};
-ghost use Rattle.ssfnet_top.specs.Ending.{Ends, Concerns, Answers, IsReadFault, IsOfCommand, IsOfModel, IsTold, IsLineCut, HasGenerated};
+ghost use Rattle.ssfnet_top.specs.Ending.{Ends, Concerns, Answers, IsReadFault, IsOfCommand, IsOfModel, IsTold, IsLineCut, IsReportCut, IsReportTold, IsToldOf, HasGenerated, HasTold, Tells, WantsReport};
 
 use crate::Refusal;
 use crate::checking::print_counts;
@@ -28,11 +28,12 @@ const MEMORY_STATUS: u8 = 1;
 const WRITE_STATUS: u8 = 7;
 
 /// Answers a command: reads the files that the words name from the library, writes what is due on
-/// `out` and the line of a refusal on `err`, and answers the status with which the program ends.
+/// `out`, and then on `err` the report that is asked or the line of a refusal, and answers the status
+/// with which the program ends.
 ///
 /// The commands are `dml` (the printing of the files' tree), `check` (how many parts the model has),
-/// `plan` (the text of the model's plan), `seq` (the trace of the model's run by one event list) and
-/// `gen` (the text of a generated model, for which no file is read).
+/// `plan` (the text of the model's plan), `seq` (the trace of the model's run by one event list, and
+/// its report) and `gen` (the text of a generated model, for which no file is read).
 ///
 /// The words are those after the program's name. The statuses are 0 where the whole output was
 /// written, 1 where there was no memory, 2 for words that are not those of a command, 3 for a file
@@ -54,24 +55,30 @@ pub fn offline<L: Library, K: Sink, J: Sink>(
     ensures read { result ≡ 3 → Rose (L.faults library.old) (L.faults library.new) }
     ensures write { result ≡ 7 → Rose (K.faults out.old) (K.faults out.new) ⊎ Rose (J.faults err.old) (J.faults err.new) }
     ensures nothing { 2 ≤ result → result ≤ 6 → Appends [] (K.held out.old) (K.held out.new) }
-    ensures quiet { result ≡ 0 → Appends [] (J.held err.old) (J.held err.new) }
+    ensures quiet { result ≡ 0 → ¬ WantsReport (asked_of_words (map string_bytes words.now)) → Appends [] (J.held err.old) (J.held err.new) }
+    ensures reported { result ≡ 0 → HasTold (asked_of_words (map string_bytes words.now)) (J.held err.old) (J.held err.new) }
     ensures generated { result ≡ 0 → HasGenerated (asked_of_words (map string_bytes words.now)) (K.held out.old) (K.held out.new) }
-    ensures line { (result ≡ 0) ⊎ (((result ≡ 7) × IsLineCut (asked_of_words (map string_bytes words.now)) (J.faults err.old) (J.faults err.new) (J.held err.old) (J.held err.new)) ⊎ ((r : RefusalValue) × (status_of r ≡ result) × Concerns (asked_of_words (map string_bytes words.now)) r × Appends (refusal_line r) (J.held err.old) (J.held err.new))) }
+    ensures line { (result ≡ 0) ⊎ (((result ≡ 7) × (IsLineCut (asked_of_words (map string_bytes words.now)) (J.faults err.old) (J.faults err.new) (J.held err.old) (J.held err.new)
+        ⊎ IsReportCut (asked_of_words (map string_bytes words.now)) (J.faults err.old) (J.faults err.new) (J.held err.old) (J.held err.new))) ⊎ ((r : RefusalValue) × (status_of r ≡ result) × Concerns (asked_of_words (map string_bytes words.now)) r × Appends (refusal_line r) (J.held err.old) (J.held err.new))) }
 {
-    match answer(alloc, words, library, out) {
-        Ok(()) => 0,
+    let mut report = Vec::new(alloc);
+    match answer(alloc, words, library, out, &mut report) {
+        Ok(()) => tell_report(report.as_slice(), err),
         Err(refusal) => tell(alloc, &refusal, err),
     }
 }
 
-/// Answers a command, but for the line of a refusal.
+/// Answers a command, but for what is written on `err`: it appends the report that is asked to `report`,
+/// and the line of a refusal is left to the caller.
 fn answer<L: Library, K: Sink>(
     alloc: Global,
     words: &[String],
     library: &mut L,
     out: &mut K,
+    report: &mut Vec<u8>,
 ) -> Result<(), Refusal>
-    ensures outcome { IfSome (L.files library.old) (λ told. Answers (IsOutcome told (map string_bytes words.now)) result (K.faults out.old) (K.faults out.new) (K.held out.old) (K.held out.new)
+    requires empty { report.old.items ≡ [] }
+    ensures outcome { IfSome (L.files library.old) (λ told. Answers (IsOutcome told (map string_bytes words.now)) report.new.items result (K.faults out.old) (K.faults out.new) (K.held out.old) (K.held out.new)
         ⊎ IsReadFault told (asked_of_words (map string_bytes words.now)) result (L.faults library.old) (L.faults library.new) (K.held out.old) (K.held out.new)) }
     ensures concerns { IfErr result (λ r. Concerns (asked_of_words (map string_bytes words.now)) r) }
     ensures words { asked_of_words (map string_bytes words.now) ≡ None → IsErrAnd result (λ r. (r ≡ Refusal.Memory) ⊎ (r ≡ Refusal.Words)) }
@@ -80,46 +87,61 @@ fn answer<L: Library, K: Sink>(
     ensures write { IfErr result (λ r. r ≡ Refusal.Write → Rose (K.faults out.old) (K.faults out.new)) }
     ensures nothing { IfErr result (λ r. 2 ≤ status_of r → status_of r ≤ 6 → Appends [] (K.held out.old) (K.held out.new)) }
     ensures generated { OnOk result (HasGenerated (asked_of_words (map string_bytes words.now)) (K.held out.old) (K.held out.new)) }
+    ensures told { OnOk result (IsToldOf (asked_of_words (map string_bytes words.now)) report.new.items) }
 {
     let request = match read_words(alloc, words) {
         Ok(request) => request,
         Err(WordsFault::Words) => return Err(Refusal::Words),
         Err(WordsFault::Memory) => return Err(Refusal::Memory),
     };
-    let Request { command, files, .. } = request;
-    let names = files.as_slice();
-    match read_files(alloc, library, names) {
-        Ok(tree) => act(alloc, command, names, &tree, out),
+    match read_files(alloc, library, request.files.as_slice()) {
+        Ok(tree) => act(alloc, &request, &tree, out, report),
         Err(refusal) => Err(refusal),
     }
 }
 
-/// Does what a command asks with the joined tree of files with these names.
+/// Does what is asked with the joined tree of the files, and appends the report that is asked.
 fn act<K: Sink>(
     alloc: Global,
-    command: Command,
-    names: &[String],
+    request: &Request,
     tree: &Tree,
     out: &mut K,
+    report: &mut Vec<u8>,
 ) -> Result<(), Refusal>
-    requires range { IsInRange command }
-    requires landed { IsLanded command }
-    requires placed { ArePlaced (map string_bytes names.now) tree.now }
-    ensures due { Answers (IsCommandDue command (map string_bytes names.now) tree.now) result (K.faults out.old) (K.faults out.new) (K.held out.old) (K.held out.new) }
-    ensures cause { IfErr result (λ r. IsOfCommand command (map string_bytes names.now) r) }
+    requires range { IsInRange request.now.command }
+    requires landed { IsLanded request.now.command }
+    requires placed { ArePlaced (map string_bytes request.now.files.items) tree.now }
+    requires empty { report.old.items ≡ [] }
+    ensures due { Answers (IsCommandDue request.now.command (asked_of request.now) tree.now) report.new.items result (K.faults out.old) (K.faults out.new) (K.held out.old) (K.held out.new) }
+    ensures cause { IfErr result (λ r. IsOfCommand request.now.command (map string_bytes request.now.files.items) r) }
     ensures write { IfErr result (λ r. r ≡ Refusal.Write → Rose (K.faults out.old) (K.faults out.new)) }
-    ensures nothing { IfErr result (λ r. IsOfModel (map string_bytes names.now) r → ¬ (r ≡ Refusal.Memory) → Appends [] (K.held out.old) (K.held out.new)) }
+    ensures nothing { IfErr result (λ r. IsOfModel (map string_bytes request.now.files.items) r → ¬ (r ≡ Refusal.Memory) → Appends [] (K.held out.old) (K.held out.new)) }
+    ensures told { OnOk result (Tells request.now.command request.now.report report.new.items) }
 {
-    match command {
+    let names = request.files.as_slice();
+    match request.command {
         Command::Dml { flat: false } => print_tree(alloc, tree, out),
         Command::Dml { flat: true } => print_resolved(alloc, names, tree, out),
         Command::Check => print_counts(alloc, names, tree, out),
         Command::Plan => print_plan(alloc, names, tree, out),
-        Command::Seq { until, budget } => run_model(alloc, until, budget, names, tree, out),
+        Command::Seq { until, budget } => {
+            let wanted = request.report;
+            run_model(alloc, until, budget, wanted, names, tree, out, report)
+        }
         Command::Step { .. } => unreachable!(),
         Command::Run { .. } => unreachable!(),
         Command::Gen { seed, size } => print_campus(alloc, seed, size, out),
     }
+}
+
+/// Writes a report, where there is one, and answers the status with which the program ends.
+fn tell_report<J: Sink>(report: &[u8], err: &mut J) -> u8
+    ensures { IsReportTold report.now result (J.faults err.old) (J.faults err.new) (J.held err.old) (J.held err.new) }
+{
+    if report.is_empty() {
+        return 0;
+    }
+    say(report, 0, err)
 }
 
 /// Writes the line of a refusal, and answers the status with which the program ends.

@@ -10,3 +10,7 @@ pub mod Reported
 pub mod Leading
 pub mod Meeting
 pub mod Running
+pub mod Firsts
+pub mod Marking
+pub mod Onward
+pub mod Tries

@@ -1,2 +1,4 @@
+pub mod Choosing
 pub mod Cores
+pub mod Driving
 pub mod Steps

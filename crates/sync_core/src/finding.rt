@@ -19,7 +19,7 @@ use timeline::Timeline;
 
 impl<B: Behaviour> Core<B> {
     /// Whether a step is enabled.
-    fn can(&self, step: Step) -> bool
+    pub(crate) fn can(&self, step: Step) -> bool
         requires may { MayStep (B.valid self.now.behaviour) (B.reaction self.now.behaviour) self.now }
         ensures { result ≡ is_enabled self.now step }
     {

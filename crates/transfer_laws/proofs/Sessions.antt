@@ -25,6 +25,7 @@ use Rattle.tcp_rules.specs.Segments.{Turn}
 use Rattle.tcp_rules.specs.Clients.{ClientFields}
 use Rattle.tcp_rules.specs.Sessions.{End, Client as ClientEnd, connecting, accepting, at_segment, at_timeout, state_of}
 use Rattle.traffic.specs.Progress.{next_server}
+use Rattle.tcp_rules.proofs.Cases.{both_left}
 use Rattle.host_rules.specs.declared.rows.HostRows.{HostRows}
 use Rattle.host_rules.specs.declared.rows.HostPort.{HostPort}
 use Rattle.host_rules.specs.declared.sockets.Sockets.{Sockets}
@@ -124,12 +125,12 @@ found_true test (y ∷ ys) x e = head_case (test y) refl e (found_true test ys x
     head_case true is e rest = let same : y ≡ x = cc in subst (λ z. test z ≡ true) same is
     head_case false is e rest = rest e
 
-found_is : (sockets : Sockets) (xs : List EntryFields) (x : EntryFields) → found sockets xs ≡ Some x → Among x xs × (same_sockets x.sockets sockets ≡ true)
+pub found_is : (sockets : Sockets) (xs : List EntryFields) (x : EntryFields) → found sockets xs ≡ Some x → Among x xs × (same_sockets x.sockets sockets ≡ true)
 unfolding found
 found_is sockets xs x e =
     (found_among (λ (y : EntryFields). same_sockets y.sockets sockets) xs x e, found_true (λ (y : EntryFields). same_sockets y.sockets sockets) xs x e)
 
-numbered_is : (number : ℕ) (xs : List EntryFields) (x : EntryFields) → numbered number xs ≡ Some x → Among x xs
+pub numbered_is : (number : ℕ) (xs : List EntryFields) (x : EntryFields) → numbered number xs ≡ Some x → Among x xs
 unfolding numbered
 numbered_is number xs x e = found_among (λ (y : EntryFields). nat_eq y.number number) xs x e
 
@@ -140,11 +141,11 @@ pub record IsKeptHere (P : EntryFields → Type 0) : Type 0 where
   pub opened : (x : EntryFields) (c : ClientFields) → x.session ≡ ClientEnd c → P x
   pub timed : (x : EntryFields) (now : ℕ) → P x → P (record x { session = (at_timeout x.session now).after })
 
--- P stays at the segment of this packet, and holds of a session that it opens
+-- P stays at the segment of this packet, and holds of a session that it opens, as a SYN does
 pub record IsKeptAt (rows : HostRows) (P : EntryFields → Type 0) (now : ℕ) (packet : PacketFields) : Type 0 where
   pub heard : (x : EntryFields) (segment : SegmentFields) → packet.segment ≡ Some segment → same_sockets x.sockets (sockets_of packet) ≡ true
       → P x → P (record x { session = (at_segment x.session segment now).after })
-  pub accepted : (number : ℕ) (segment : SegmentFields) → packet.segment ≡ Some segment
+  pub accepted : (number : ℕ) (segment : SegmentFields) → packet.segment ≡ Some segment → segment.syn ≡ true
       → P (record { number = number; sockets = sockets_of packet; client = None; session = (accepting rows.tcp segment now).after })
 
 abbrev pub IsKeptBy : HostRows → (EntryFields → Type 0) → ℕ → Wake PacketFields → Type 0
@@ -245,6 +246,10 @@ module _ (rows : HostRows) (P : EntryFields → Type 0) (keeps : IsKeptHere P) w
   ticked_held now s held = all_timed_out_held now (due now s.sessions) s held
 
   -- packets
+  accepted_syn : (packet : PacketFields) (segment : SegmentFields) (s : Stack) → may_accept rows packet segment s ≡ true → segment.syn ≡ true
+  unfolding may_accept
+  accepted_syn packet segment s may = both_left segment.syn _ may
+
   tcp_at_held : (now : ℕ) (packet : PacketFields) (segment : SegmentFields) (x : Option EntryFields) (s : Stack) → found (sockets_of packet) s.sessions ≡ x → packet.segment ≡ Some segment
       → IsKeptAt rows P now packet → IsHeld P s → IsHeld P (tcp_arrived_at rows now packet segment x s).stack
   tcp_at_held now packet segment (Some x) s e is at held =
@@ -254,7 +259,7 @@ module _ (rows : HostRows) (P : EntryFields → Type 0) (keeps : IsKeptHere P) w
       let turn = accepting rows.tcp segment now in
       if_case (λ (f : Effect). IsHeld P f.stack) (may_accept rows packet segment s)
       (λ t. all_done_held now (sockets_of packet) turn.acts (with_entry (sockets_of packet) None turn.after s)
-      (entry_held (sockets_of packet) None turn.after s (at.accepted s.made segment is) held))
+      (entry_held (sockets_of packet) None turn.after s (at.accepted s.made segment is (accepted_syn packet segment s t)) held))
       (λ t. held)
 
   tcp_held : (now : ℕ) (packet : PacketFields) (segment : SegmentFields) (s : Stack) → packet.segment ≡ Some segment → IsKeptAt rows P now packet → IsHeld P s → IsHeld P (tcp_arrived rows now packet segment s).stack

@@ -23,9 +23,9 @@ use Rattle.host_rules.specs.Hosts.{EntryFields, HostFields}
 use Rattle.host_rules.specs.Sending.{own_addresses}
 use Rattle.host_rules.specs.Reacting.{host_reaction}
 
--- a packet goes from the peer's address and port to the session's own
+-- a packet goes from the peer's address and port to the session's own, and has the time to live with which it was made
 abbrev pub goes_to : Sockets → PacketFields → Bool
-goes_to ends packet = nat_eq ends.own packet.dst && (nat_eq ends.own_port packet.dst_port && (nat_eq ends.peer packet.src && nat_eq ends.peer_port packet.src_port))
+goes_to ends packet = nat_eq packet.ttl 64 && (nat_eq ends.own packet.dst && (nat_eq ends.own_port packet.dst_port && (nat_eq ends.peer packet.src && nat_eq ends.peer_port packet.src_port)))
 
 -- the segment that a write brings to the session between these ends
 abbrev pub segment_for : Sockets → Written PacketFields → List SegmentFields
@@ -38,7 +38,7 @@ IsNoMessage (Timer process ticket) = Unit {0}
 IsNoMessage (Message channel packet) = ⊥
 
 module _ {B : Type 0} where
-  -- the segments that this host sends to it at an event, if the peer's address is one of the host's own
+  -- the segments that this host makes and sends to it at an event, if the peer's address is one of the host's own
   abbrev pub segments_from : Sockets → Event PacketFields → Entity B HostFields PacketFields → List SegmentFields
   segments_from ends e host =
       cond (has_address (own_addresses host.state.rows) ends.peer) (flat_map (segment_for ends) (delivered_to host_reaction e host).writes) []

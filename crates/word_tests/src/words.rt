@@ -25,7 +25,7 @@ const FEW: Option<Command> = Some(Command::Seq {
 });
 
 /// Words in the table, and words that are not.
-const CASES: [Case; 51] = [
+const CASES: [Case; 55] = [
     Case {
         words: "seq --until 10 m.dml",
         asked: TEN,
@@ -276,6 +276,26 @@ const CASES: [Case; 51] = [
     },
     Case {
         words: "seq --until 10 --report m.dml",
+        asked: TEN,
+        files: "m.dml ",
+    },
+    Case {
+        words: "seq --report 3 m.dml --until 10",
+        asked: TEN,
+        files: "3 m.dml ",
+    },
+    Case {
+        words: "seq --report --until 10 m.dml --report",
+        asked: None,
+        files: "",
+    },
+    Case {
+        words: "check --report m.dml",
+        asked: None,
+        files: "",
+    },
+    Case {
+        words: "step --until 10 --report m.dml",
         asked: None,
         files: "",
     },
@@ -313,7 +333,9 @@ fn check_case(rt: &(impl Abort + AllocGlobal), case: &Case) -> Result<(), Fail> 
     match read_words(alloc, words.as_slice()) {
         Ok(request) => {
             assert_eq!(rt; Some(request.command), case.asked, "{}", case.words);
-            assert!(rt; !request.report && request.schedule.is_none());
+            let reports = case.words.split(' ').any(|word| word == "--report");
+            assert_eq!(rt; request.report, reports, "{}", case.words);
+            assert!(rt; request.schedule.is_none());
             let files = joined(alloc, request.files.as_slice())?;
             assert_eq!(rt; files.as_str(), case.files, "{}", case.words);
         }

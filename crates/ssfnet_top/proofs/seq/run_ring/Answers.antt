@@ -13,7 +13,8 @@ pub returns-in-Ok-clause-due : goal.returns-in-Ok-clause-due
 returns-in-Ok-clause-due g c =
     let until = c.args.until in
     let budget = c.args.budget in
+    let wanted = c.args.wanted in
     let built = c.in-Ok.built in
     let read = ring_plan_of (attributes c.args.tree.now) in
-    answers_by (IsRunDue ring_reaction built.plan built.names until budget) (IsRingRun until budget read) (ring_run until budget read built c.in-Ok.ensures.built) c.simulate.result
+    answers_by (IsRunDue ring_reaction built.plan built.names until budget wanted) (IsRingRun until budget wanted read) (ring_run until budget wanted read built c.in-Ok.ensures.built) c.simulate.new.report.items c.simulate.result
     (g.K.Sink.faults c.args.out.now) (g.K.Sink.faults c.simulate.new.out) (g.K.Sink.held c.args.out.now) (g.K.Sink.held c.simulate.new.out) c.simulate.ensures.due
