@@ -48,3 +48,11 @@ pub fn parts_of_a_run_are_at_home<B: Behaviour>()
         → ((i : ℕ) (t : TimelineOf B B.State B.Payload) → slice_get core.timelines i ≡ Some t → HasItsCrosses t)
         → AreAtHome (B.valid b) (B.carried b) (B.reaction b) core (λ c. slice_index (counts_of core) c) (shares_of core) }
 {}
+
+/// Parts that are at home by some counts are as many as there were (`timelines`, `mails`).
+pub fn parts_at_home_are_all<B: Behaviour>()
+    ensures timelines { (b : B) (key core : CoreView B B.State B.Payload) (f : ℕ → ℕ) → AreAtHome (B.valid b) (B.carried b) (B.reaction b) key f (shares_of core)
+        → length core.timelines ≡ count_of key }
+    ensures mails { (b : B) (key core : CoreView B B.State B.Payload) (f : ℕ → ℕ) → AreAtHome (B.valid b) (B.carried b) (B.reaction b) key f (shares_of core)
+        → length core.mails ≡ count_of key }
+{}
