@@ -1,6 +1,5 @@
 -- Parts that were gathered again.
-use Rattle.std.specs.Prelude.{ℕ, ◌≡◌, List}
-use Rattle.plan_shares.specs.declared.crosses.CrossEnd.{CrossEnd}
+use Rattle.std.specs.Prelude.{◌≡◌}
 use Rattle.core_rules.specs.Cores.{CoreView}
 
 -- the parts of the same run: all but timelines, mails and the barrier is the same
