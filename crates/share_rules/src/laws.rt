@@ -61,9 +61,10 @@ pub fn parts_at_home_are_all<B: Behaviour>()
         → length core.mails ≡ count_of key }
 {}
 
-/// They are sound together for each run for which the key's parts were (`sound`), and those of a run where
-/// these were (`run`). Each timeline is what the key's became (`since`), the safe bound has not fallen
-/// (`safe`), and neither has the round (`round`).
+/// Parts that are at home by some counts, with all else as the key has it, are sound together for each run
+/// for which the key's parts were (`sound`), and those of a run where these were (`run`). Each timeline has
+/// the ends of its mappings (`crosses`) and is what the key's became (`since`). The safe bound has not
+/// fallen (`safe`), and neither has the round (`round`).
 pub fn parts_at_home_are_sound_together<B: Behaviour>()
     ensures sound { (b : B) (key core : CoreView B B.State B.Payload) (f : ℕ → ℕ) → IsOfSame key core → AreAtHome (B.valid b) (B.carried b) (B.reaction b) key f (shares_of core)
         → OfItsRuns (B.valid b) (B.carried b) (B.reaction b) key (λ plan line s. (at : ℕ → ℕ) × (v : ℕ) × IsSoundFor plan line s core at v) }
