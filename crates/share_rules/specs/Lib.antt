@@ -3,3 +3,4 @@ pub mod Runs
 pub mod Home
 pub mod WordLaws
 pub mod HomeLaws
+pub mod Gathered

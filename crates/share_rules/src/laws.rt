@@ -6,7 +6,11 @@ ghost use Rattle.turn_table.specs.Shapes.{words_in, spoken, Speaks, is_cleared};
 ghost use Rattle.plan_shares.specs.declared.crosses.CrossEnd.{CrossEnd as CrossEndValue};
 ghost use Rattle.timeline.specs.View.{TimelineOf};
 ghost use Rattle.sync_steps.specs.Between.{HasItsCrosses};
-ghost use Rattle.core_rules.specs.Cores.{CoreView, IsCoreOfRun};
+ghost use Rattle.core_rules.specs.Cores.{CoreView, IsCoreOfRun, IsSoundFor};
+ghost use Rattle.core_rules.specs.Reading.{safe_bound_in};
+ghost use Rattle.share_rules.specs.Gathered.{IsOfSame};
+ghost use Rattle.share_rules.specs.Runs.{OfItsRuns};
+ghost use Rattle.share_rules.specs.Home.{IsSince};
 ghost use Rattle.share_rules.specs.Places.{ShareOf, count_of, barrier_place, posted_word, taken_word, done_word, round_word, posted_places, taken_places, twice, shape_of, shares_of, counts_of};
 ghost use Rattle.share_rules.specs.Home.{Owes, Keeps, Marked, AreAtHome};
 
@@ -47,4 +51,32 @@ pub fn parts_of_a_run_are_at_home<B: Behaviour>()
     ensures home { (b : B) (core : CoreView B B.State B.Payload) → IsCoreOfRun (B.valid b) (B.carried b) (B.reaction b) core
         → ((i : ℕ) (t : TimelineOf B B.State B.Payload) → slice_get core.timelines i ≡ Some t → HasItsCrosses t)
         → AreAtHome (B.valid b) (B.carried b) (B.reaction b) core (λ c. slice_index (counts_of core) c) (shares_of core) }
+{}
+
+/// Parts that are at home by some counts are as many as there were (`timelines`, `mails`).
+pub fn parts_at_home_are_all<B: Behaviour>()
+    ensures timelines { (b : B) (key core : CoreView B B.State B.Payload) (f : ℕ → ℕ) → AreAtHome (B.valid b) (B.carried b) (B.reaction b) key f (shares_of core)
+        → length core.timelines ≡ count_of key }
+    ensures mails { (b : B) (key core : CoreView B B.State B.Payload) (f : ℕ → ℕ) → AreAtHome (B.valid b) (B.carried b) (B.reaction b) key f (shares_of core)
+        → length core.mails ≡ count_of key }
+{}
+
+/// Parts that are at home by some counts, with all else as the key has it, are sound together for each run
+/// for which the key's parts were (`sound`), and those of a run where these were (`run`). Each timeline has
+/// the ends of its mappings (`crosses`) and is what the key's became (`since`). The safe bound has not
+/// fallen (`safe`), and neither has the round (`round`).
+pub fn parts_at_home_are_sound_together<B: Behaviour>()
+    ensures sound { (b : B) (key core : CoreView B B.State B.Payload) (f : ℕ → ℕ) → IsOfSame key core → AreAtHome (B.valid b) (B.carried b) (B.reaction b) key f (shares_of core)
+        → OfItsRuns (B.valid b) (B.carried b) (B.reaction b) key (λ plan line s. (at : ℕ → ℕ) × (v : ℕ) × IsSoundFor plan line s core at v) }
+    ensures run { (b : B) (key core : CoreView B B.State B.Payload) (f : ℕ → ℕ) → IsOfSame key core → AreAtHome (B.valid b) (B.carried b) (B.reaction b) key f (shares_of core)
+        → IsCoreOfRun (B.valid b) (B.carried b) (B.reaction b) key → IsCoreOfRun (B.valid b) (B.carried b) (B.reaction b) core }
+    ensures crosses { (b : B) (key core : CoreView B B.State B.Payload) (f : ℕ → ℕ) → AreAtHome (B.valid b) (B.carried b) (B.reaction b) key f (shares_of core)
+        → (i : ℕ) (t : TimelineOf B B.State B.Payload) → slice_get core.timelines i ≡ Some t → HasItsCrosses t }
+    ensures since { (b : B) (key core : CoreView B B.State B.Payload) (f : ℕ → ℕ) → AreAtHome (B.valid b) (B.carried b) (B.reaction b) key f (shares_of core)
+        → (i : ℕ) (old : TimelineOf B B.State B.Payload) → slice_get key.timelines i ≡ Some old
+        → (t : TimelineOf B B.State B.Payload) × (slice_get core.timelines i ≡ Some t) × IsSince old t }
+    ensures safe { (b : B) (key core : CoreView B B.State B.Payload) (f : ℕ → ℕ) → IsOfSame key core → AreAtHome (B.valid b) (B.carried b) (B.reaction b) key f (shares_of core)
+        → safe_bound_in key ≤ safe_bound_in core }
+    ensures round { (b : B) (key core : CoreView B B.State B.Payload) (f : ℕ → ℕ) → AreAtHome (B.valid b) (B.carried b) (B.reaction b) key f (shares_of core)
+        → key.barrier.round ≤ core.barrier.round }
 {}

@@ -2,8 +2,9 @@
 //! timelines, their mails and the barrier.
 //!
 //! All is said on data (`specs/`): `Places.antt` has the places and the count words, `Runs.antt` facts
-//! on the runs for which all parts were sound when the table was made, and `Home.antt` what is so of
-//! a value at home, by the counts and by the marks of the pass that holds its turn. The laws are the
+//! on the runs for which all parts were sound when the table was made, `Home.antt` what is so of a
+//! value at home, by the counts and by the marks of the pass that holds its turn, and `Gathered.antt`
+//! what all parts that are gathered again have of those that were shared out. The laws are the
 //! contracts of the functions in [`laws`], which have empty bodies.
 #![tactic(auto)]
 
