@@ -1,12 +1,10 @@
 //! Rings that are run by steps, and what is due of them by the one event list.
 
-ghost use Rattle.std.specs.Prelude.{◌≡◌, ◌<◌, ◌≤◌, length, IfOk};
-
 use global_list::{SingleEnd, run_single};
 use list_examples::rings::ring_plan;
-use ring_model::{Hop, Ring};
+use ring_model::Hop;
 use sim_base::{Memory, MemorySink, Text, push_number};
-use ssf_model::{Entry, Names, Plan};
+use ssf_model::{Entry, Names};
 use std::alloc::Global;
 use step_run::{Mode, Step, StepEnd, StepOrder, run_steps};
 use trace_writer::{Tally, end_line, trace_line};
