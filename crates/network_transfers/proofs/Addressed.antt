@@ -1,7 +1,7 @@
 -- The host of an address, in a network and in a run of its plan.
 use Rattle.std.proofs.Common.{◌≡◌, ℕ, zero, suc, ◌+◌, ◌<◌, ◌≤◌, ◌⊎◌, Bool, true, false, ◌||◌, nat_eq, List, length, map, Option, Some, None, slice_get, refl, sym, ap, subst, ◌∙◌, inl, inr, arith, zero-add}
 use Rattle.std.specs.List.{filter_map, cons_option, range_with_len}
-use Rattle.std.proofs.lemmas.Bool.{eqb-true}
+use Rattle.std.proofs.lemmas.Bool.{cases_lt, eqb-true, eq-eqb, or_left, or_right}
 use Rattle.event_order.specs.declared.key.Key.{Key}
 use Rattle.spf_routes.specs.declared.graph.Period.{Period}
 use Rattle.ssf_model.specs.declared.builder.DraftEntity.{DraftEntity}
@@ -20,7 +20,7 @@ use Rattle.net_layout.specs.Wiring.{wires_of}
 use Rattle.net_layout.specs.Ports.{port_count}
 use Rattle.net_layout.specs.Faults.{first_fault}
 use Rattle.net_layout.specs.Limits.{HasDistinctAddresses}
-use Rattle.net_layout.proofs.HostPorts.{first_interface_up, port_host}
+use Rattle.net_layout.proofs.HostPorts.{first_interface_up, port_host, port_from, port_below}
 use Rattle.net_layout.proofs.Limiting.{keeps_limits}
 use Rattle.net_layout.proofs.Addressing.{distinct}
 use Rattle.host_rules.specs.declared.rows.HostPort.{HostPort}
@@ -79,6 +79,35 @@ own_with network tables h address is has =
     let mine = port_host network is found.interface h found.low below in
     record { interface = found.interface; there = mine.0; own = mine.1; at = found.at }
 
+is_first : (o : Option ℕ) (own : List ℕ) (address : ℕ) → o ≡ Some address → has_address (cons_option o own) address ≡ true
+is_first None own address e = absurd (cc)
+is_first (Some x) own address e = let same : x ≡ address = cc in or_left (nat_eq x address) (has_address own address) (eq-eqb x address same)
+
+is_other : (o : Option ℕ) (own : List ℕ) (address : ℕ) → has_address own address ≡ true → has_address (cons_option o own) address ≡ true
+is_other None own address h = h
+is_other (Some x) own address h = or_right (nat_eq x address) (has_address own address) h
+
+address_among : (network : Network) (a n address interface : ℕ) → a ≤ interface → interface < a + n → interface_address network interface ≡ Some address
+    → has_address (filter_map (λ (port : HostPort). port.address) (map (port_row network) (range_with_len a n))) address ≡ true
+address_among network a zero address interface low high at = absurd (omega (arith, low, high))
+address_among network a (suc n) address interface low high at =
+    let others : List ℕ = filter_map (λ (port : HostPort). port.address) (map (port_row network) (range_with_len (a + 1) n)) in
+    elim (cases_lt a interface) [
+      | inl less ↦ is_other (interface_address network a) others address (address_among network (a + 1) n address interface (omega (arith, less)) (omega (arith, high)) at)
+      | inr le ↦
+          let same : interface ≡ a = omega (arith, low, le) in
+          is_first (interface_address network a) others address (ap (interface_address network) (sym same) ∙ at)
+    ]
+
+-- and all its addresses are among them
+with_own : (network : Network) (tables : List (List Period)) (h address : ℕ) → IsNetwork network → HasAddress network h address → has_address (own_addresses (host_rows_of network tables h)) address ≡ true
+unfolding own_addresses
+with_own network tables h address is has =
+    let from : first_interface network h ≤ has.interface = subst (λ g. first_interface network g ≤ has.interface) has.own (port_from network is has.interface has.there) in
+    let below : has.interface < first_interface network (h + 1) = subst (λ g. has.interface < first_interface network (g + 1)) has.own (port_below network is has.interface has.there) in
+    let within : has.interface < first_interface network h + port_count network h = omega (arith, from, below) in
+    address_among network (first_interface network h) (port_count network h) address has.interface from within has.at
+
 -- ---- in a run
 
 -- an entity at first has the state of its draft
@@ -114,3 +143,9 @@ module _ {B : Type 0} (behaviour : B) (network : Network) where
         → has_address (own_addresses e.state.rows) address ≡ true → HasAddress network h address
     address_of_host n h address e is at has =
         own_with network built.tables h address is (subst (λ (rows : HostRows). has_address (own_addresses rows) address ≡ true) (rows_along n h e at) has)
+
+    -- and all that it has there are among them
+    pub host_of_address : (n h address : ℕ) (e : Entity B HostFields PacketFields) → IsNetwork network → slice_get (world_after host_reaction plan until kept n).state.entities h ≡ Some e
+        → HasAddress network h address → has_address (own_addresses e.state.rows) address ≡ true
+    host_of_address n h address e is at has =
+        subst (λ (rows : HostRows). has_address (own_addresses rows) address ≡ true) (sym (rows_along n h e at)) (with_own network built.tables h address is has)

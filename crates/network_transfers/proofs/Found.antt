@@ -9,6 +9,7 @@ use Rattle.sim_base.specs.SegmentFields.{SegmentFields}
 use Rattle.ssf_model.specs.declared.event.Event.{Event}
 use Rattle.ssf_model.specs.declared.entity.Entity.{Entity}
 use Rattle.ssf_model.specs.declared.plan.Plan.{Plan}
+use Rattle.ssf_model.specs.declared.wait.Kind.TheVariants.{Message}
 use Rattle.ssf_model.specs.declared.out.Written.{Written}
 use Rattle.ssf_model.specs.declared.out.Written.TheVariants.{Channel, Timer as TimerWrite}
 use Rattle.ssf_model.specs.Reaction.{Each, LatestTime}
@@ -16,7 +17,7 @@ use Rattle.ssf_model.specs.Channels.{delivered_to}
 use Rattle.ssf_model.specs.Drafts.{start}
 use Rattle.ssf_model.specs.Run.{world_after, run_event, Fits}
 use Rattle.ip_layer.specs.Packets.{PacketFields, IsPacket}
-use Rattle.ip_layer.specs.Forwarding.{has_address}
+use Rattle.ip_layer.specs.Forwarding.{has_address, passed_on}
 use Rattle.tcp_rules.specs.Servers.{ServerFields}
 use Rattle.tcp_rules.specs.Transfers.{LiesIn, LiesAmong}
 use Rattle.host_rules.specs.declared.sockets.Sockets.{Sockets}
@@ -32,7 +33,7 @@ use Rattle.net_plan.specs.NetDraft.{IsNetBuilt}
 use Rattle.net_plan.proofs.Beginning.{none_begun, starts_pend}
 use Rattle.transfer_laws.specs.Sent.{goes_to, segment_for, segments_from_one, segments_at, segments_sent, IsNoMessage, IsFresh, IsServing}
 use Rattle.transfer_laws.specs.Stretch.{WaitsAfter, IsSynAt}
-use Rattle.transfer_laws.proofs.Delivered.{delivers_what_came, begins_with_syn, waits_after_delivered}
+use Rattle.transfer_laws.proofs.Delivered.{delivers_what_came, begins_with_syn, waits_after_delivered, lower_when_passed_on}
 use Rattle.network_transfers.specs.Senders.{IsHostOf, SendsTo, HasSent}
 use Rattle.network_transfers.proofs.Fitting.{network_fits}
 use Rattle.network_transfers.proofs.Addressed.{one_host, address_of_host}
@@ -183,3 +184,7 @@ module _ {B : Type 0} (behaviour : B) (network : Network) (is : IsNetwork networ
 
   pub waits_in_network : until ≤ LatestTime → (n : ℕ) (x : EntryFields) (server : ServerFields) → IsServing plan until kept n x server → WaitsAfter server.state server
   waits_in_network in_time n x server serving = waits_after_delivered plan until in_time fits fresh kept n x server serving
+
+  pub less_time_passed_on : until ≤ LatestTime → (n : ℕ) (event : Event PacketFields) (channel : ℕ) (came : PacketFields)
+      → run_event host_reaction plan until kept n ≡ Some event → event.kind ≡ Message channel came → (passed_on came).ttl < 64
+  less_time_passed_on in_time n event channel came is brings = lower_when_passed_on plan until in_time fits fresh kept n event channel came is brings

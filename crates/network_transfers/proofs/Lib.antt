@@ -1,3 +1,4 @@
 pub mod Fitting
 pub mod Addressed
 pub mod Found
+pub mod Counted
