@@ -47,6 +47,7 @@ pub enum StepEnd {
 
 /// How a plan is run: up to the time `until`, in ticks, at most `budget` events of each timeline, the mode and the
 /// threshold of its alignment, and the steps that are tried first.
+#[derive(Clone, Copy)]
 pub struct StepOrder<'a> {
     pub until: u64,
     pub budget: u64,
@@ -70,7 +71,8 @@ enum Advanced {
 /// `until`, in ticks, and the line that ends it. Each timeline executes at most `budget` events, at most 10^12. `nets`
 /// has the innermost Net of each entity, and `names` its name. The tally gets all events that are written.
 ///
-/// What is written is the same for every schedule, mode and threshold. It takes no memory for writing once the run is begun.
+/// What is written when it finishes is the same for every schedule, mode and threshold. The room for writing is taken before the
+/// first step, but for a table of the histories, one place a timeline, which is made for each piece of the trace.
 #[tactic(none)]
 pub fn run_steps<B: Behaviour, K: Sink>(
     alloc: Global,
