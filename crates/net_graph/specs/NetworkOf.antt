@@ -52,17 +52,17 @@ kind_of (keys.Server port) = kind.Server port
 
 -- after the walk: addresses are looked up
 
-abbrev pub host_at : Seen → List ℕ → Option ℕ
-host_at seen ids = position (same ids) seen.host_names
+abbrev pub host_by_ids : Seen → List ℕ → Option ℕ
+host_by_ids seen ids = position (same ids) seen.host_names
 
 abbrev pub first_interface : Seen → Option ℕ → Option ℕ
 first_interface seen None = None
 first_interface seen (Some h) = position (λ row. nat_eq row.host h) seen.interfaces
 
 -- the interface of a full NHI; without one that of the host's first interface
-abbrev pub interface_at : Seen → NhiFields → Option ℕ → Option ℕ
-interface_at seen nhi None = first_interface seen (host_at seen nhi.ids)
-interface_at seen nhi (Some id) = position (same (nhi.ids ++ id ∷ [])) seen.interface_names
+abbrev pub interface_by_nhi : Seen → NhiFields → Option ℕ → Option ℕ
+interface_by_nhi seen nhi None = first_interface seen (host_by_ids seen nhi.ids)
+interface_by_nhi seen nhi (Some id) = position (same (nhi.ids ++ id ∷ [])) seen.interface_names
 
 abbrev pub full : List ℕ → NhiFields → NhiFields
 full path nhi = record { ids = path ++ nhi.ids; interface = nhi.interface }
@@ -77,7 +77,7 @@ pub record Attachment : Type 0 where
 abbrev pub attachments_of : Seen → ℕ → List ℕ → ℕ → List NhiFields → List Attachment
 attachments_of seen number path place [] = []
 attachments_of seen number path place (nhi ∷ nhis) =
-    record { link = number; place = place; nhi = full path nhi; interface = interface_at seen (full path nhi) nhi.interface } ∷ attachments_of seen number path (place + 1) nhis
+    record { link = number; place = place; nhi = full path nhi; interface = interface_by_nhi seen (full path nhi) nhi.interface } ∷ attachments_of seen number path (place + 1) nhis
 
 abbrev pub attachments_from : Seen → ℕ → List LinkSeen → List Attachment
 attachments_from seen number [] = []
@@ -102,9 +102,9 @@ attachments_fault before [] = None
 attachments_fault before (a ∷ more) = first_some (attachment_fault before a.nhi a.interface) (attachments_fault (before ++ a ∷ []) more)
 
 -- where an interface is attached
-abbrev pub link_at : List Attachment → ℕ → Option (ℕ × ℕ)
-link_at [] n = None
-link_at (a ∷ more) n = if is_at n a then Some (a.link, a.place) else link_at more n
+abbrev pub attached_at : List Attachment → ℕ → Option (ℕ × ℕ)
+attached_at [] n = None
+attached_at (a ∷ more) n = if is_at n a then Some (a.link, a.place) else attached_at more n
 
 abbrev pub same_link : Option (ℕ × ℕ) → Option (ℕ × ℕ) → Bool
 same_link None b = false
@@ -116,11 +116,11 @@ same_link (Some a) (Some b) = nat_eq a.0 b.0
 abbrev pub next_at : List Attachment → NhiFields → ℕ → Option ℕ → Read Gateway
 next_at all nhi interface None = Err (UnknownNhi nhi)
 next_at all nhi interface (Some next) =
-    if same_link (link_at all interface) (link_at all next) then Ok (record { interface = interface; next = Some next }) else Err (UnknownNhi nhi)
+    if same_link (attached_at all interface) (attached_at all next) then Ok (record { interface = interface; next = Some next }) else Err (UnknownNhi nhi)
 
 abbrev pub gateway_next : Seen → List Attachment → List ℕ → ℕ → Option NhiFields → Read Gateway
 gateway_next seen all path interface None = Ok (record { interface = interface; next = None })
-gateway_next seen all path interface (Some nhi) = next_at all (full path nhi) interface (interface_at seen (full path nhi) nhi.interface)
+gateway_next seen all path interface (Some nhi) = next_at all (full path nhi) interface (interface_by_nhi seen (full path nhi) nhi.interface)
 
 -- the address of an interface of this host
 abbrev pub own_address : HostSeen → ℕ → NhiFields
@@ -132,7 +132,7 @@ gateway_on seen all h k (Some interface) = gateway_next seen all h.path interfac
 
 abbrev pub gateway_row : Seen → List Attachment → HostSeen → Option GatewayKeys → Read (Option Gateway)
 gateway_row seen all h None = Ok None
-gateway_row seen all h (Some k) = then_read (gateway_on seen all h k (interface_at seen (own_address h k.interface) (Some k.interface))) (λ g. Ok (Some g))
+gateway_row seen all h (Some k) = then_read (gateway_on seen all h k (interface_by_nhi seen (own_address h k.interface) (Some k.interface))) (λ g. Ok (Some g))
 
 abbrev pub is_ospf : ℕ → SessionSeen → Bool
 is_ospf h s = nat_eq s.host h && is_ospf_kind s.keys
@@ -157,22 +157,22 @@ client_at nhi (Some h) = Ok h
 abbrev pub server_at : List Attachment → ℕ → NhiFields → ℕ → Option ℕ → Read ServerRow
 server_at all client nhi port None = Err (UnknownNhi nhi)
 server_at all client nhi port (Some interface) =
-    if is_some (link_at all interface) then Ok (record { client = client; interface = interface; port = port }) else Err (UnknownNhi nhi)
+    if is_some (attached_at all interface) then Ok (record { client = client; interface = interface; port = port }) else Err (UnknownNhi nhi)
 
 -- the servers of the patterns, where the pattern that came last has this client
 abbrev pub server_rows : Seen → List Attachment → ℕ → List TrafficSeen → Read (List ServerRow)
 server_rows seen all client [] = Ok []
 server_rows seen all client (traffic.Pattern p ∷ more) =
-    then_read (client_at (full p.path p.client) (host_at seen (p.path ++ p.client.ids))) (λ next. server_rows seen all next more)
+    then_read (client_at (full p.path p.client) (host_by_ids seen (p.path ++ p.client.ids))) (λ next. server_rows seen all next more)
 server_rows seen all client (traffic.Server s ∷ more) =
-    then_read (server_at all client (full s.path s.keys.nhi) s.keys.port (interface_at seen (full s.path s.keys.nhi) s.keys.nhi.interface)) (λ row.
+    then_read (server_at all client (full s.path s.keys.nhi) s.keys.port (interface_by_nhi seen (full s.path s.keys.nhi) s.keys.nhi.interface)) (λ row.
     then_read (server_rows seen all client more) (λ rows. Ok (row ∷ rows)))
 
 -- the rows that name no other part by its address
 
 abbrev pub linked : List Attachment → ℕ → List InterfaceRow → List InterfaceRow
 linked all number [] = []
-linked all number (row ∷ rows) = record row { link = link_at all number } ∷ linked all (number + 1) rows
+linked all number (row ∷ rows) = record row { link = attached_at all number } ∷ linked all (number + 1) rows
 
 abbrev pub attached_numbers : ℕ → List Attachment → List ℕ
 attached_numbers number [] = []

@@ -14,7 +14,7 @@ use Rattle.net_graph.specs.declared.seen.Seen.{Seen}
 use Rattle.net_graph.specs.Names.{same}
 use Rattle.net_graph.specs.Reads.{Read, then_read}
 use Rattle.net_graph.specs.SeenRows.{first_some, fault_if}
-use Rattle.net_graph.specs.NetworkOf.{Attachment, attachments, attachments_of, attachments_from, full, interface_at, first_interface, host_at, is_at, link_at, attachment_fault, attachments_fault}
+use Rattle.net_graph.specs.NetworkOf.{Attachment, attachments, attachments_of, attachments_from, full, interface_by_nhi, first_interface, host_by_ids, is_at, attached_at, attachment_fault, attachments_fault}
 use Rattle.net_resolve.specs.Tables.{Places, attachment_to, put_free, put_at, put, put_all, IsTable, is_taken, taken, interface_of}
 use Rattle.net_resolve.proofs.Firsts.{position_below}
 
@@ -63,7 +63,7 @@ unfolding put_all
 attach_end seen number path whole p place now e is = e ∙ ap (λ (xs : List NhiFields). put_all p (attachments_of seen number path place xs)) is
 
 pub numbers_turn : (seen : Seen) (number : ℕ) (path whole before after : List ℕ) (now rest : List NhiFields) (nhi : NhiFields) (n : ℕ) →
-    whole ≡ before ++ map interface_of (attachments_of seen number path (length before) now) → now ≡ nhi ∷ rest → interface_at seen (full path nhi) nhi.interface ≡ Some n → after ≡ before ++ n ∷ [] →
+    whole ≡ before ++ map interface_of (attachments_of seen number path (length before) now) → now ≡ nhi ∷ rest → interface_by_nhi seen (full path nhi) nhi.interface ≡ Some n → after ≡ before ++ n ∷ [] →
     whole ≡ after ++ map interface_of (attachments_of seen number path (length after) rest)
 numbers_turn seen number path whole before after now rest nhi n e is at pushed =
     let k = length before in
@@ -112,13 +112,13 @@ taken_few p = count_by-le-length is_taken p
 
 -- the table of the attachments before, with one more
 
-found_by : (b : Bool) (at : ℕ × ℕ) (before : List Attachment) (n : ℕ) → is_some (link_at before n) ≡ list_any (is_at n) before →
-    is_some (if b then Some at else link_at before n) ≡ (b || list_any (is_at n) before)
+found_by : (b : Bool) (at : ℕ × ℕ) (before : List Attachment) (n : ℕ) → is_some (attached_at before n) ≡ list_any (is_at n) before →
+    is_some (if b then Some at else attached_at before n) ≡ (b || list_any (is_at n) before)
 found_by true at before n e = refl
 found_by false at before n e = e
 
 -- an interface is attached before where there is a place
-is_found : (before : List Attachment) (n : ℕ) → is_some (link_at before n) ≡ list_any (is_at n) before
+is_found : (before : List Attachment) (n : ℕ) → is_some (attached_at before n) ≡ list_any (is_at n) before
 is_found [] n = refl
 is_found (a ∷ before) n = found_by (is_at n a) (a.link, a.place) before n (is_found before n)
 
@@ -126,19 +126,19 @@ skip_by : (b : Bool) (at : ℕ × ℕ) (o r : Option (ℕ × ℕ)) → o ≡ r �
 skip_by b at o r e = ap (λ (x : Option (ℕ × ℕ)). if b then Some at else x) e
 
 -- another interface
-at_other : (before : List Attachment) (n : ℕ) (a : Attachment) → is_at n a ≡ false → link_at (before ++ a ∷ []) n ≡ link_at before n
+at_other : (before : List Attachment) (n : ℕ) (a : Attachment) → is_at n a ≡ false → attached_at (before ++ a ∷ []) n ≡ attached_at before n
 at_other [] n a ne = ap (λ (b : Bool). if b then Some (a.link, a.place) else None) ne
-at_other (x ∷ before) n a ne = skip_by (is_at n x) (x.link, x.place) (link_at (before ++ a ∷ []) n) (link_at before n) (at_other before n a ne)
+at_other (x ∷ before) n a ne = skip_by (is_at n x) (x.link, x.place) (attached_at (before ++ a ∷ []) n) (attached_at before n) (at_other before n a ne)
 
 last_by : (b : Bool) (at : ℕ × ℕ) (o r last : Option (ℕ × ℕ)) → (o ≡ None → r ≡ last) → (if b then Some at else o) ≡ None → (if b then Some at else r) ≡ last
 last_by true at o r last next none = cc
 last_by false at o r last next none = next none
 
 -- this interface, which was not attached before
-at_last : (before : List Attachment) (n : ℕ) (a : Attachment) → is_at n a ≡ true → link_at before n ≡ None → link_at (before ++ a ∷ []) n ≡ Some (a.link, a.place)
+at_last : (before : List Attachment) (n : ℕ) (a : Attachment) → is_at n a ≡ true → attached_at before n ≡ None → attached_at (before ++ a ∷ []) n ≡ Some (a.link, a.place)
 at_last [] n a here none = ap (λ (b : Bool). if b then Some (a.link, a.place) else None) here
 at_last (x ∷ before) n a here none =
-    last_by (is_at n x) (x.link, x.place) (link_at before n) (link_at (before ++ a ∷ []) n) (Some (a.link, a.place)) (λ e. at_last before n a here e) none
+    last_by (is_at n x) (x.link, x.place) (attached_at before n) (attached_at (before ++ a ∷ []) n) (Some (a.link, a.place)) (λ e. at_last before n a here e) none
 
 -- the attachment of interface m
 
@@ -146,11 +146,11 @@ abbrev with_interface : Attachment → ℕ → Attachment
 with_interface a m = record { link = a.link; place = a.place; nhi = a.nhi; interface = Some m }
 
 table_by : (before : List Attachment) (p : Places) (a : Attachment) (m n : ℕ) (b : Bool) → IsTable before p → m < length p → get_or p m None ≡ None → nat_eq m n ≡ b →
-    get_or (set p m (Some (a.link, a.place))) n None ≡ link_at (before ++ with_interface a m ∷ []) n
+    get_or (set p m (Some (a.link, a.place))) n None ≡ attached_at (before ++ with_interface a m ∷ []) n
 table_by before p a m n true table lt free here =
     let same : m ≡ n = eqb-true m n here in
     let at : (ℕ × ℕ) = (a.link, a.place) in
-    let none : link_at before n ≡ None = sym (table.each n) ∙ (ap (λ (k : ℕ). get_or p k None) (sym same) ∙ free) in
+    let none : attached_at before n ≡ None = sym (table.each n) ∙ (ap (λ (k : ℕ). get_or p k None) (sym same) ∙ free) in
     ap (λ (k : ℕ). get_or (set p m (Some at)) k None) (sym same) ∙ (get_or-set_same p m (Some at) None lt ∙ sym (at_last before n (with_interface a m) here none))
 table_by before p a m n false table lt free other =
     let ne : n ≢ m = λ e. eqb-false m n other (sym e) in
@@ -249,8 +249,8 @@ first_below : (seen : Seen) (o : Option ℕ) → ForSome (first_interface seen o
 first_below seen None = λ m e. cc
 first_below seen (Some h) = position_below (λ row. nat_eq row.host h) seen.interfaces
 
-pub interface_below : (seen : Seen) (nhi : NhiFields) (o : Option ℕ) → length seen.interfaces ≡ length seen.interface_names → ForSome (interface_at seen nhi o) (λ m. m < length seen.interfaces)
-interface_below seen nhi None long = first_below seen (host_at seen nhi.ids)
+pub interface_below : (seen : Seen) (nhi : NhiFields) (o : Option ℕ) → length seen.interfaces ≡ length seen.interface_names → ForSome (interface_by_nhi seen nhi o) (λ m. m < length seen.interfaces)
+interface_below seen nhi None long = first_below seen (host_by_ids seen nhi.ids)
 interface_below seen nhi (Some id) long = λ m e. let below = position_below (same (nhi.ids ++ id ∷ [])) seen.interface_names m e in omega (arith, long, below)
 
 below_append : (n : ℕ) (xs ys : List Attachment) → AllBelow n xs → AllBelow n ys → AllBelow n (xs ++ ys)

@@ -7,7 +7,7 @@ use Rattle.net_graph.specs.declared.rows.InterfaceRow.{InterfaceRow}
 use Rattle.net_graph.specs.declared.rows.LinkRow.{LinkRow}
 use Rattle.net_graph.specs.declared.seen.LinkSeen.{LinkSeen}
 use Rattle.net_graph.specs.declared.seen.Seen.{Seen}
-use Rattle.net_graph.specs.NetworkOf.{Attachment, attachments, attachments_of, attachments_from, attached_numbers, link_rows, linked, interface_at}
+use Rattle.net_graph.specs.NetworkOf.{Attachment, attachments, attachments_of, attachments_from, attached_numbers, link_rows, linked, interface_by_nhi}
 use Rattle.net_resolve.specs.Tables.{Places, IsTable, interface_of, link_row, link_rows_from, placed_rows}
 
 -- the numbers that are attached to one link, among the attachments of all
@@ -25,14 +25,14 @@ attached_append n (a ∷ xs) ys =
 attached_same : (seen : Seen) (n : ℕ) (path : List ℕ) (place : ℕ) (nhis : List NhiFields) → attached_numbers n (attachments_of seen n path place nhis) ≡ map interface_of (attachments_of seen n path place nhis)
 attached_same seen n path place [] = refl
 attached_same seen n path place (nhi ∷ nhis) =
-    let x = unwrap_or (interface_at seen (record { ids = path ++ nhi.ids; interface = nhi.interface }) nhi.interface) 0 in
+    let x = unwrap_or (interface_by_nhi seen (record { ids = path ++ nhi.ids; interface = nhi.interface }) nhi.interface) 0 in
     let rest = attached_numbers n (attachments_of seen n path (place + 1) nhis) in
     ap (λ (b : Bool). if b then x ∷ rest else rest) (eq-eqb n n refl) ∙ ap (λ (l : List ℕ). x ∷ l) (attached_same seen n path (place + 1) nhis)
 
 attached_other : (seen : Seen) (n m : ℕ) (path : List ℕ) (place : ℕ) (nhis : List NhiFields) → nat_eq m n ≡ false → attached_numbers n (attachments_of seen m path place nhis) ≡ []
 attached_other seen n m path place [] ne = refl
 attached_other seen n m path place (nhi ∷ nhis) ne =
-    let x = unwrap_or (interface_at seen (record { ids = path ++ nhi.ids; interface = nhi.interface }) nhi.interface) 0 in
+    let x = unwrap_or (interface_by_nhi seen (record { ids = path ++ nhi.ids; interface = nhi.interface }) nhi.interface) 0 in
     let rest = attached_numbers n (attachments_of seen m path (place + 1) nhis) in
     ap (λ (b : Bool). if b then x ∷ rest else rest) ne ∙ attached_other seen n m path (place + 1) nhis ne
 

@@ -23,7 +23,7 @@ use Rattle.net_graph.specs.declared.seen.Seen.{Seen}
 use Rattle.net_graph.specs.ListKeys.{default_tcp}
 use Rattle.net_graph.specs.Reads.{Read, then_read}
 use Rattle.net_graph.specs.Steps.{is_server}
-use Rattle.net_graph.specs.NetworkOf.{Attachment, attachments, attachments_fault, full, gateway_row, host_at, host_rows, interface_at, client_at, server_at, server_rows, is_ospf, tcp_in, session_row, linked, link_rows, rows_with, rows_of}
+use Rattle.net_graph.specs.NetworkOf.{Attachment, attachments, attachments_fault, full, gateway_row, host_by_ids, host_rows, interface_by_nhi, client_at, server_at, server_rows, is_ospf, tcp_in, session_row, linked, link_rows, rows_with, rows_of}
 use Rattle.net_resolve.specs.declared.build.Parts.{Parts}
 use Rattle.net_resolve.specs.declared.hosts.HostSummary.{HostSummary}
 use Rattle.net_resolve.specs.Parts.{network_with}
@@ -62,10 +62,10 @@ host_end f seen all whole before n now e is = e ∙ (ap (λ (xs : List HostSeen)
 -- patterns
 
 abbrev pub client_read : Seen → PatternSeen → Read ℕ
-client_read seen p = client_at (full p.path p.client) (host_at seen (p.path ++ p.client.ids))
+client_read seen p = client_at (full p.path p.client) (host_by_ids seen (p.path ++ p.client.ids))
 
 abbrev pub server_read : Seen → List Attachment → ℕ → ServerSeen → Read ServerRow
-server_read seen all client s = server_at all client (full s.path s.keys.nhi) s.keys.port (interface_at seen (full s.path s.keys.nhi) s.keys.nhi.interface)
+server_read seen all client s = server_at all client (full s.path s.keys.nhi) s.keys.port (interface_by_nhi seen (full s.path s.keys.nhi) s.keys.nhi.interface)
 
 pub pattern_turn : (seen : Seen) (all : List Attachment) (whole : Read (List ServerRow)) (before : List ServerRow) (client next : ℕ) (now more : List TrafficSeen) (p : PatternSeen) →
     whole ≡ onto before (server_rows seen all client now) → now ≡ traffic.Pattern p ∷ more → client_read seen p ≡ Ok next → whole ≡ onto before (server_rows seen all next more)

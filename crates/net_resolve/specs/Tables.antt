@@ -16,7 +16,7 @@ use Rattle.net_graph.specs.declared.seen.SessionSeen.{SessionSeen}
 use Rattle.net_graph.specs.declared.seen.Seen.{Seen}
 use Rattle.net_graph.specs.ListKeys.{default_tcp}
 use Rattle.net_graph.specs.Reads.{Read, then_read}
-use Rattle.net_graph.specs.NetworkOf.{Attachment, attachments_of, first_interface, interface_at, link_at}
+use Rattle.net_graph.specs.NetworkOf.{Attachment, attachments_of, first_interface, interface_by_nhi, attached_at}
 use Rattle.net_resolve.specs.declared.hosts.HostSummary.{HostSummary}
 
 -- the first interface of each host
@@ -43,7 +43,7 @@ Places = List (Option (ℕ × ℕ))
 
 -- the attachment, at this place of a link, of the interface with a full NHI
 abbrev pub attachment_to : Seen → ℕ → ℕ → NhiFields → Attachment
-attachment_to seen link place nhi = record { link = link; place = place; nhi = nhi; interface = interface_at seen nhi nhi.interface }
+attachment_to seen link place nhi = record { link = link; place = place; nhi = nhi; interface = interface_by_nhi seen nhi nhi.interface }
 
 abbrev pub put_free : Places → ℕ → Attachment → Option (ℕ × ℕ) → Read Places
 put_free places number a None = Ok (slice_set places number (Some (a.link, a.place)))
@@ -62,7 +62,7 @@ put_all places (a ∷ more) = then_read (put places a) (λ after. put_all after 
 
 -- the table of these attachments
 pub record IsTable (all : List Attachment) (places : Places) : Type 0 where
-  pub each : (number : ℕ) → slice_index_or places number None ≡ link_at all number
+  pub each : (number : ℕ) → slice_index_or places number None ≡ attached_at all number
 
 abbrev pub is_taken : Option (ℕ × ℕ) → Bool
 is_taken None = false

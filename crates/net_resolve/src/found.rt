@@ -2,7 +2,7 @@
 ghost use Rattle.std.specs.Prelude.{◌≡◌, ◌<◌, None, length, position, slice_index_or, replicate, IfOk, IfErr};
 ghost use Rattle.std.specs.Option.{ForSome};
 ghost use Rattle.net_graph.specs.Names.{same};
-ghost use Rattle.net_graph.specs.NetworkOf.{host_at, first_interface, interface_at};
+ghost use Rattle.net_graph.specs.NetworkOf.{host_by_ids, first_interface, interface_by_nhi};
 ghost use Rattle.net_graph.specs.Steps.{IsFew};
 ghost use Rattle.net_resolve.specs.Tables.{noted, firsts_after};
 
@@ -96,7 +96,7 @@ impl Found {
 
     /// The number of the host with a full NHI.
     pub fn host_at(&self, nhi: &Nhi) -> Option<u32>
-        ensures { result ≡ host_at self.now nhi.now.ids }
+        ensures { result ≡ host_by_ids self.now nhi.now.ids }
     {
         match self.seen.host_names.number_of(nhi.ids()) {
             Some(number) => Some(number as u32),
@@ -106,7 +106,7 @@ impl Found {
 
     /// The number of the first interface of the host with a full NHI.
     fn first_at(&self, nhi: &Nhi) -> Option<u32>
-        ensures first { result ≡ first_interface self.now (host_at self.now nhi.now.ids) }
+        ensures first { result ≡ first_interface self.now (host_by_ids self.now nhi.now.ids) }
         ensures there { ForSome result (λ n. n < length self.now.interfaces) }
     {
         match self.host_at(nhi) {
@@ -131,7 +131,7 @@ impl Found {
     /// # Errors
     /// `Memory`.
     pub fn interface_at(&self, alloc: Global, nhi: &Nhi) -> Result<Option<u32>, ShapeFault>
-        ensures found { IfOk result (λ number. number ≡ interface_at self.now nhi.now nhi.now.interface) }
+        ensures found { IfOk result (λ number. number ≡ interface_by_nhi self.now nhi.now nhi.now.interface) }
         ensures there { IfOk result (λ number. ForSome number (λ n. n < length self.now.interfaces)) }
         ensures cause { IfErr result (λ fault. fault ≡ ShapeFault.Memory) }
     {

@@ -1,7 +1,7 @@
 //! The rows of hosts: their gateways, and what their sessions say of them.
 ghost use Rattle.std.specs.Prelude.{◌≡◌, ◌+◌, ◌≤◌, ◌⊎◌, Some, None, Ok, Err, length, slice_index_or, map, IfOk, IfErr, replicate};
 ghost use Rattle.nhi_address.specs.NhiFields.{IsId};
-ghost use Rattle.net_graph.specs.NetworkOf.{attachments, interface_at, full, own_address, same_link, gateway_next, gateway_on, gateway_row, host_rows, kind_of, session_row};
+ghost use Rattle.net_graph.specs.NetworkOf.{attachments, interface_by_nhi, full, own_address, same_link, gateway_next, gateway_on, gateway_row, host_rows, kind_of, session_row};
 ghost use Rattle.net_graph.specs.Steps.{HasIds};
 ghost use Rattle.net_resolve.specs.Tables.{IsTable, host_row, silent, with_session, told_one, told};
 
@@ -143,8 +143,8 @@ fn gateway_on(
     requires table { IsTable (attachments found.now) places.now }
     requires ids { HasIds host.now }
     requires id { IsId keys.now.interface }
-    ensures row { IfOk result (λ gateway. gateway_on found.now (attachments found.now) host.now keys.now (interface_at found.now (own_address host.now keys.now.interface) (Some keys.now.interface)) ≡ Ok gateway) }
-    ensures cause { IfErr result (λ fault. (fault ≡ ShapeFault.Memory) ⊎ (gateway_on found.now (attachments found.now) host.now keys.now (interface_at found.now (own_address host.now keys.now.interface) (Some keys.now.interface)) ≡ Err fault)) }
+    ensures row { IfOk result (λ gateway. gateway_on found.now (attachments found.now) host.now keys.now (interface_by_nhi found.now (own_address host.now keys.now.interface) (Some keys.now.interface)) ≡ Ok gateway) }
+    ensures cause { IfErr result (λ fault. (fault ≡ ShapeFault.Memory) ⊎ (gateway_on found.now (attachments found.now) host.now keys.now (interface_by_nhi found.now (own_address host.now keys.now.interface) (Some keys.now.interface)) ≡ Err fault)) }
 {
     let own = own_nhi(alloc, host, keys.interface)?;
     match found.interface_at(alloc, &own)? {

@@ -1,6 +1,6 @@
 //! The attachments of links.
 ghost use Rattle.std.specs.Prelude.{◌≡◌, ◌+◌, ◌<◌, ◌≤◌, ◌⊎◌, Some, None, Ok, Err, length, map, slice_index_or, replicate, IfOk, IfErr, OnOk};
-ghost use Rattle.net_graph.specs.NetworkOf.{attachments_of, attachments, interface_at};
+ghost use Rattle.net_graph.specs.NetworkOf.{attachments_of, attachments, interface_by_nhi};
 ghost use Rattle.net_resolve.specs.Tables.{attachment_to, put, put_all, taken, interface_of, link_row, link_rows_from, placed_rows};
 
 use crate::found::Found;
@@ -42,7 +42,7 @@ fn attach_one(
 ) -> Result<u32, ShapeFault>
     requires { length places.old ≡ length found.now.interfaces }
     ensures put { OnOk result (put places.old (attachment_to found.now link place nhi) ≡ Ok places.new) }
-    ensures number { IfOk result (λ number. interface_at found.now nhi nhi.interface ≡ Some number) }
+    ensures number { IfOk result (λ number. interface_by_nhi found.now nhi nhi.interface ≡ Some number) }
     ensures taken { OnOk result (taken places.new ≡ taken places.old + 1) }
     ensures length { length places.new ≡ length places.old }
     ensures cause { IfErr result (λ fault. (fault ≡ ShapeFault.Memory) ⊎ (put places.old (attachment_to found.now link place nhi) ≡ Err fault)) }

@@ -1,6 +1,6 @@
 //! The clients and servers of patterns.
 ghost use Rattle.std.specs.Prelude.{◌≡◌, ◌++◌, ◌≤◌, ◌⊎◌, Ok, Err, length, IfOk, IfErr};
-ghost use Rattle.net_graph.specs.NetworkOf.{attachments, interface_at, host_at, full, client_at, server_at, server_rows};
+ghost use Rattle.net_graph.specs.NetworkOf.{attachments, interface_by_nhi, host_by_ids, full, client_at, server_at, server_rows};
 ghost use Rattle.net_resolve.specs.Tables.{IsTable};
 
 use crate::found::Found;
@@ -11,8 +11,8 @@ use std::alloc::Global;
 
 /// The number of the client of a pattern.
 fn client_of(alloc: Global, found: &Found, pattern: &PatternSeen) -> Result<u32, ShapeFault>
-    ensures client { IfOk result (λ host. client_at (full pattern.now.path pattern.now.client) (host_at found.now (pattern.now.path ++ pattern.now.client.ids)) ≡ Ok host) }
-    ensures cause { IfErr result (λ fault. (fault ≡ ShapeFault.Memory) ⊎ (client_at (full pattern.now.path pattern.now.client) (host_at found.now (pattern.now.path ++ pattern.now.client.ids)) ≡ Err fault)) }
+    ensures client { IfOk result (λ host. client_at (full pattern.now.path pattern.now.client) (host_by_ids found.now (pattern.now.path ++ pattern.now.client.ids)) ≡ Ok host) }
+    ensures cause { IfErr result (λ fault. (fault ≡ ShapeFault.Memory) ⊎ (client_at (full pattern.now.path pattern.now.client) (host_by_ids found.now (pattern.now.path ++ pattern.now.client.ids)) ≡ Err fault)) }
 {
     let nhi = pattern.path.full(alloc, &pattern.client)?;
     match found.host_at(&nhi) {
@@ -30,8 +30,8 @@ fn server_row(
     server: &ServerSeen,
 ) -> Result<ServerRow, ShapeFault>
     requires { IsTable (attachments found.now) places.now }
-    ensures row { IfOk result (λ row. server_at (attachments found.now) client (full server.now.path server.now.keys.nhi) server.now.keys.port (interface_at found.now (full server.now.path server.now.keys.nhi) server.now.keys.nhi.interface) ≡ Ok row) }
-    ensures cause { IfErr result (λ fault. (fault ≡ ShapeFault.Memory) ⊎ (server_at (attachments found.now) client (full server.now.path server.now.keys.nhi) server.now.keys.port (interface_at found.now (full server.now.path server.now.keys.nhi) server.now.keys.nhi.interface) ≡ Err fault)) }
+    ensures row { IfOk result (λ row. server_at (attachments found.now) client (full server.now.path server.now.keys.nhi) server.now.keys.port (interface_by_nhi found.now (full server.now.path server.now.keys.nhi) server.now.keys.nhi.interface) ≡ Ok row) }
+    ensures cause { IfErr result (λ fault. (fault ≡ ShapeFault.Memory) ⊎ (server_at (attachments found.now) client (full server.now.path server.now.keys.nhi) server.now.keys.port (interface_by_nhi found.now (full server.now.path server.now.keys.nhi) server.now.keys.nhi.interface) ≡ Err fault)) }
 {
     let nhi = server.path.full(alloc, &server.keys.nhi)?;
     let Some(interface) = found.interface_at(alloc, &nhi)? else {

@@ -17,7 +17,7 @@ use Rattle.net_graph.specs.declared.seen.Seen.{Seen}
 use Rattle.net_graph.specs.Names.{same}
 use Rattle.net_graph.specs.SeenRows.{first_some, fault_if}
 use Rattle.net_graph.specs.Networks.{no_interface}
-use Rattle.net_graph.specs.NetworkOf.{Attachment, attachments_of, attachments_from, attachments, full, interface_at, first_interface, host_at, same_number, is_at, attachment_fault, attachments_fault, link_at, attached_numbers}
+use Rattle.net_graph.specs.NetworkOf.{Attachment, attachments_of, attachments_from, attachments, full, interface_by_nhi, first_interface, host_by_ids, same_number, is_at, attachment_fault, attachments_fault, attached_at, attached_numbers}
 use Rattle.network_laws.proofs.Names.{none_passes}
 
 -- an interface that is found is there
@@ -26,8 +26,8 @@ first_within : (seen : Seen) (h : Option ℕ) (n : ℕ) → first_interface seen
 first_within seen None n e = let no : ⊥ = cc in absurd no
 first_within seen (Some h) n e = (position-Some (λ (row : InterfaceRow). nat_eq row.host h) seen.interfaces n no_interface e).0
 
-pub interface_within : (seen : Seen) (nhi : NhiFields) (o : Option ℕ) (n : ℕ) → length seen.interfaces ≡ length seen.interface_names → interface_at seen nhi o ≡ Some n → n < length seen.interfaces
-interface_within seen nhi None n long e = first_within seen (host_at seen nhi.ids) n e
+pub interface_within : (seen : Seen) (nhi : NhiFields) (o : Option ℕ) (n : ℕ) → length seen.interfaces ≡ length seen.interface_names → interface_by_nhi seen nhi o ≡ Some n → n < length seen.interfaces
+interface_within seen nhi None n long e = first_within seen (host_by_ids seen nhi.ids) n e
 interface_within seen nhi (Some id) n long e =
     let lt : n < length seen.interface_names = (position-Some (same (nhi.ids ++ id ∷ [])) seen.interface_names n [] e).0 in omega arith
 
@@ -37,7 +37,7 @@ IsThere count a = (n : ℕ) → a.interface ≡ Some n → n < count
 there_of : (seen : Seen) (number : ℕ) (path : List ℕ) (place : ℕ) (nhis : List NhiFields) → length seen.interfaces ≡ length seen.interface_names → All (IsThere (length seen.interfaces)) (attachments_of seen number path place nhis)
 there_of seen number path place [] long = All-nil (IsThere (length seen.interfaces))
 there_of seen number path place (nhi ∷ nhis) long =
-    All-cons (IsThere (length seen.interfaces)) (record { link = number; place = place; nhi = full path nhi; interface = interface_at seen (full path nhi) nhi.interface }) (attachments_of seen number path (place + 1) nhis)
+    All-cons (IsThere (length seen.interfaces)) (record { link = number; place = place; nhi = full path nhi; interface = interface_by_nhi seen (full path nhi) nhi.interface }) (attachments_of seen number path (place + 1) nhis)
     (λ n e. interface_within seen (full path nhi) nhi.interface n long e) (there_of seen number path (place + 1) nhis long)
 
 there_from : (seen : Seen) (number : ℕ) (ls : List LinkSeen) → length seen.interfaces ≡ length seen.interface_names → All (IsThere (length seen.interfaces)) (attachments_from seen number ls)
@@ -98,22 +98,22 @@ pub record Holder (all : List Attachment) (n : ℕ) (at : ℕ × ℕ) : Type 0 w
   pub interface : (d : Attachment) → (get_or all index d).interface ≡ Some n
   pub place : (d : Attachment) → at ≡ ((get_or all index d).link, (get_or all index d).place)
 
-holder_by : (all : List Attachment) (a : Attachment) (n : ℕ) (at : ℕ × ℕ) (b : Bool) → is_at n a ≡ b → (link_at all n ≡ Some at → Holder all n at) → (if b then Some (a.link, a.place) else link_at all n) ≡ Some at → Holder (a ∷ all) n at
+holder_by : (all : List Attachment) (a : Attachment) (n : ℕ) (at : ℕ × ℕ) (b : Bool) → is_at n a ≡ b → (attached_at all n ≡ Some at → Holder all n at) → (if b then Some (a.link, a.place) else attached_at all n) ≡ Some at → Holder (a ∷ all) n at
 holder_by all a n at true is next e = record { index = 0; within = omega arith; interface = λ d. is_at_is a.interface n is; place = λ d. (let same : (let p : ℕ × ℕ = (a.link, a.place) in p ≡ at) = cc in sym same) }
 holder_by all a n at false is next e =
     let h = next e in
     let lt = h.within in
     record { index = suc h.index; within = omega arith; interface = λ d. h.interface d; place = λ d. h.place d }
 
-pub holder_of : (all : List Attachment) (n : ℕ) (at : ℕ × ℕ) → link_at all n ≡ Some at → Holder all n at
+pub holder_of : (all : List Attachment) (n : ℕ) (at : ℕ × ℕ) → attached_at all n ≡ Some at → Holder all n at
 holder_of [] n at e = let no : ⊥ = cc in absurd no
 holder_of (a ∷ all) n at e = holder_by all a n at (is_at n a) refl (holder_of all n at) e
 
-link_by : (all : List Attachment) (a : Attachment) (n : ℕ) (at : ℕ × ℕ) (b : Bool) → is_at n a ≡ b → a.interface ≢ Some n → link_at all n ≡ Some at → (if b then Some (a.link, a.place) else link_at all n) ≡ Some at
+link_by : (all : List Attachment) (a : Attachment) (n : ℕ) (at : ℕ × ℕ) (b : Bool) → is_at n a ≡ b → a.interface ≢ Some n → attached_at all n ≡ Some at → (if b then Some (a.link, a.place) else attached_at all n) ≡ Some at
 link_by all a n at true is other e = absurd (other (is_at_is a.interface n is))
 link_by all a n at false is other e = e
 
-pub link_of : (all : List Attachment) (i n : ℕ) (d : Attachment) → AllPairs Differ all → i < length all → (get_or all i d).interface ≡ Some n → link_at all n ≡ Some ((get_or all i d).link, (get_or all i d).place)
+pub link_of : (all : List Attachment) (i n : ℕ) (d : Attachment) → AllPairs Differ all → i < length all → (get_or all i d).interface ≡ Some n → attached_at all n ≡ Some ((get_or all i d).link, (get_or all i d).place)
 link_of [] i n d apart lt e = absurd (omega arith)
 link_of (a ∷ all) zero n d apart lt e = rw (at_is a.interface n e) refl
 link_of (a ∷ all) (suc i) n d apart lt e =
@@ -135,7 +135,7 @@ numbers-append n (a ∷ xs) ys = ap (λ (l : List ℕ). if nat_eq a.link n then 
 
 same_block : (seen : Seen) (n : ℕ) (path : List ℕ) (place : ℕ) (nhis : List NhiFields) → attached_numbers n (attachments_of seen n path place nhis) ≡ map number_of (attachments_of seen n path place nhis)
 same_block seen n path place [] = refl
-same_block seen n path place (nhi ∷ nhis) = rw (eq-eqb n n refl) (ap (λ (l : List ℕ). unwrap_or (interface_at seen (full path nhi) nhi.interface) 0 ∷ l) (same_block seen n path (place + 1) nhis))
+same_block seen n path place (nhi ∷ nhis) = rw (eq-eqb n n refl) (ap (λ (l : List ℕ). unwrap_or (interface_by_nhi seen (full path nhi) nhi.interface) 0 ∷ l) (same_block seen n path (place + 1) nhis))
 
 other_block : (seen : Seen) (m n : ℕ) (path : List ℕ) (place : ℕ) (nhis : List NhiFields) → m ≢ n → attached_numbers n (attachments_of seen m path place nhis) ≡ []
 other_block seen m n path place [] other = refl
@@ -226,12 +226,12 @@ pub no_link_seen : LinkSeen
 no_link_seen = record { net = 0; path = []; order = 0; keys = record { attached = []; delay = 0; priority = 0; downs = [] } }
 
 pub record Attaches (links interfaces : ℕ) (all : List Attachment) : Type 0 where
-  pub link : (n : ℕ) (at : ℕ × ℕ) → link_at all n ≡ Some at → at.0 < links
-  pub place : (n : ℕ) (at : ℕ × ℕ) → link_at all n ≡ Some at → at.1 < length (attached_numbers at.0 all)
-  pub attached : (n : ℕ) (at : ℕ × ℕ) → link_at all n ≡ Some at → get_or (attached_numbers at.0 all) at.1 0 ≡ n
+  pub link : (n : ℕ) (at : ℕ × ℕ) → attached_at all n ≡ Some at → at.0 < links
+  pub place : (n : ℕ) (at : ℕ × ℕ) → attached_at all n ≡ Some at → at.1 < length (attached_numbers at.0 all)
+  pub attached : (n : ℕ) (at : ℕ × ℕ) → attached_at all n ≡ Some at → get_or (attached_numbers at.0 all) at.1 0 ≡ n
   pub some : (l : ℕ) → l < links → 1 ≤ length (attached_numbers l all)
   pub there : (l : ℕ) → All (λ i. i < interfaces) (attached_numbers l all)
-  pub back : (l k : ℕ) → l < links → k < length (attached_numbers l all) → link_at all (get_or (attached_numbers l all) k 0) ≡ Some (l, k)
+  pub back : (l k : ℕ) → l < links → k < length (attached_numbers l all) → attached_at all (get_or (attached_numbers l all) k 0) ≡ Some (l, k)
 
 -- the place of an attachment
 record Placed (all : List Attachment) (links n : ℕ) (at : ℕ × ℕ) : Type 0 where
@@ -253,7 +253,7 @@ placed_at seen n a among has =
       attached = rw numbers (get_or-map number_of (block seen a.link link) a.place a 0 few ∙ (ap number_of stands ∙ ap (λ (o : Option ℕ). unwrap_or o 0) has));
     }
 
-placed : (seen : Seen) (n : ℕ) (at : ℕ × ℕ) → link_at (attachments seen) n ≡ Some at → Placed (attachments seen) (length seen.links) n at
+placed : (seen : Seen) (n : ℕ) (at : ℕ × ℕ) → attached_at (attachments seen) n ≡ Some at → Placed (attachments seen) (length seen.links) n at
 placed seen n at e =
     let h = holder_of (attachments seen) n at e in
     let a = get_or (attachments seen) h.index no_attachment in
@@ -274,14 +274,14 @@ numbers_there count l (a ∷ all) has there =
     (numbers_there count l all (All-tail HasInterface a all has) (All-tail (IsThere count) a all there))
 
 -- an attachment stands at its place in its link, and its interface leads back to it
-back_of : (all : List Attachment) (i l k m : ℕ) (a : Attachment) → AllPairs Differ all → i < length all → get_or all i a ≡ a → HasInterface (get_or all i a) → a.link ≡ l → a.place ≡ k → m ≡ number_of a → link_at all m ≡ Some (l, k)
+back_of : (all : List Attachment) (i l k m : ℕ) (a : Attachment) → AllPairs Differ all → i < length all → get_or all i a ≡ a → HasInterface (get_or all i a) → a.link ≡ l → a.place ≡ k → m ≡ number_of a → attached_at all m ≡ Some (l, k)
 back_of all i l k m a apart lt here has link_is place_is e =
     let number : m ≡ has.0 = e ∙ (ap number_of (sym here) ∙ ap (λ (o : Option ℕ). unwrap_or o 0) has.1) in
     let spot : (let p : ℕ × ℕ = ((get_or all i a).link, (get_or all i a).place) in p ≡ (l, k)) = ap (λ (x : Attachment). (let p : ℕ × ℕ = (x.link, x.place) in p)) here ∙ (ap (λ (x : ℕ). (let p : ℕ × ℕ = (x, a.place) in p)) link_is ∙ ap (λ (x : ℕ). (let p : ℕ × ℕ = (l, x) in p)) place_is) in
-    ap (link_at all) number ∙ (link_of all i has.0 a apart lt has.1 ∙ ap Some spot)
+    ap (attached_at all) number ∙ (link_of all i has.0 a apart lt has.1 ∙ ap Some spot)
 
 numbers_back : (seen : Seen) (l k : ℕ) → attachments_fault [] (attachments seen) ≡ None → l < length seen.links → k < length (attached_numbers l (attachments seen)) →
-    link_at (attachments seen) (get_or (attached_numbers l (attachments seen)) k 0) ≡ Some (l, k)
+    attached_at (attachments seen) (get_or (attached_numbers l (attachments seen)) k 0) ≡ Some (l, k)
 numbers_back seen l k e lt less =
     let link = get_or seen.links l no_link_seen in
     let numbers : attached_numbers l (attachments seen) ≡ map number_of (block seen l link) = numbers_are seen 0 l l seen.links no_link_seen (omega arith) lt in

@@ -18,7 +18,7 @@ use Rattle.net_graph.specs.declared.seen.Seen.{Seen}
 use Rattle.net_graph.specs.Names.{same}
 use Rattle.sim_base.specs.Traffic.{IsTcp}
 use Rattle.net_graph.specs.Networks.{IsId, no_interface}
-use Rattle.net_graph.specs.NetworkOf.{Attachment, full, interface_at, link_at, same_link, next_at, gateway_next, own_address, gateway_on, gateway_row, tcp_or, tcp_in, host_rows}
+use Rattle.net_graph.specs.NetworkOf.{Attachment, full, interface_by_nhi, attached_at, same_link, next_at, gateway_next, own_address, gateway_on, gateway_row, tcp_or, tcp_in, host_rows}
 use Rattle.network_laws.proofs.Ranges.{then_if, IsFrequency, IsSessionKeys, default_tcp_is}
 use Rattle.network_laws.proofs.Names.{found, same_place}
 use Rattle.network_laws.proofs.Hosts.{host_name, interface_at_name, as_many}
@@ -61,31 +61,31 @@ pub record IsOut (seen : Seen) (all : List Attachment) (number : ℕ) (g : Gatew
   pub there : g.interface < length seen.interfaces
   pub own : (get_or seen.interfaces g.interface no_interface).host ≡ number
   pub next_there : ForSome g.next (λ n. n < length seen.interfaces)
-  pub next_attached : ForSome g.next (λ n. IsSome (link_at all n))
-  pub next_on_link : ForSome g.next (λ n. option_map (λ (at : ℕ × ℕ). at.0) (link_at all n) ≡ option_map (λ (at : ℕ × ℕ). at.0) (link_at all g.interface))
+  pub next_attached : ForSome g.next (λ n. IsSome (attached_at all n))
+  pub next_on_link : ForSome g.next (λ n. option_map (λ (at : ℕ × ℕ). at.0) (attached_at all n) ≡ option_map (λ (at : ℕ × ℕ). at.0) (attached_at all g.interface))
 
 on_same : (a b : Option (ℕ × ℕ)) → same_link a b ≡ true → IsSome b × (option_map (λ (at : ℕ × ℕ). at.0) b ≡ option_map (λ (at : ℕ × ℕ). at.0) a)
 on_same None b e = cc
 on_same (Some a) None e = cc
 on_same (Some a) (Some b) e = (refl, ap Some (sym (eqb-true a.0 b.0 e)))
 
-next_by : (seen : Seen) (all : List Attachment) (number interface next : ℕ) (nhi : NhiFields) (b : Bool) → same_link (link_at all interface) (link_at all next) ≡ b → interface < length seen.interfaces → (get_or seen.interfaces interface no_interface).host ≡ number → next < length seen.interfaces →
+next_by : (seen : Seen) (all : List Attachment) (number interface next : ℕ) (nhi : NhiFields) (b : Bool) → same_link (attached_at all interface) (attached_at all next) ≡ b → interface < length seen.interfaces → (get_or seen.interfaces interface no_interface).host ≡ number → next < length seen.interfaces →
     IfOk (if b then Ok (record { interface = interface; next = Some next }) else Err (UnknownNhi nhi)) (IsOut seen all number)
 next_by seen all number interface next nhi true e lt own less =
-    let on = on_same (link_at all interface) (link_at all next) e in
+    let on = on_same (attached_at all interface) (attached_at all next) e in
     record {
       there = lt;
       own = own;
       next_there = λ n is. (let same : next ≡ n = cc in omega arith);
-      next_attached = λ n is. (let same : next ≡ n = cc in subst (λ (m : ℕ). IsSome (link_at all m)) same on.0);
-      next_on_link = λ n is. (let same : next ≡ n = cc in subst (λ (m : ℕ). option_map (λ (at : ℕ × ℕ). at.0) (link_at all m) ≡ option_map (λ (at : ℕ × ℕ). at.0) (link_at all interface)) same on.1);
+      next_attached = λ n is. (let same : next ≡ n = cc in subst (λ (m : ℕ). IsSome (attached_at all m)) same on.0);
+      next_on_link = λ n is. (let same : next ≡ n = cc in subst (λ (m : ℕ). option_map (λ (at : ℕ × ℕ). at.0) (attached_at all m) ≡ option_map (λ (at : ℕ × ℕ). at.0) (attached_at all interface)) same on.1);
     }
 next_by seen all number interface next nhi false e lt own less = tt
 
 next_if : (seen : Seen) (all : List Attachment) (number interface : ℕ) (nhi : NhiFields) (o : Option ℕ) → interface < length seen.interfaces → (get_or seen.interfaces interface no_interface).host ≡ number → ForSome o (λ n. n < length seen.interfaces) →
     IfOk (next_at all nhi interface o) (IsOut seen all number)
 next_if seen all number interface nhi None lt own there = tt
-next_if seen all number interface nhi (Some next) lt own there = next_by seen all number interface next nhi (same_link (link_at all interface) (link_at all next)) refl lt own (there next refl)
+next_if seen all number interface nhi (Some next) lt own there = next_by seen all number interface next nhi (same_link (attached_at all interface) (attached_at all next)) refl lt own (there next refl)
 
 gateway_next_if : (seen : Seen) (all : List Attachment) (path : List ℕ) (number interface : ℕ) (o : Option NhiFields) → length seen.interfaces ≡ length seen.interface_names → interface < length seen.interfaces → (get_or seen.interfaces interface no_interface).host ≡ number →
     IfOk (gateway_next seen all path interface o) (IsOut seen all number)
@@ -97,9 +97,9 @@ gateway_next_if seen all path number interface None long lt own = record {
   next_on_link = λ n is. (let no : ⊥ = cc in absurd no);
 }
 gateway_next_if seen all path number interface (Some nhi) long lt own =
-    next_if seen all number interface (full path nhi) (interface_at seen (full path nhi) nhi.interface) lt own (λ n e. interface_within seen (full path nhi) nhi.interface n long e)
+    next_if seen all number interface (full path nhi) (interface_by_nhi seen (full path nhi) nhi.interface) lt own (λ n e. interface_within seen (full path nhi) nhi.interface n long e)
 
-gateway_on_if : (f : ℕ) (seen : Seen) (all : List Attachment) (h : HostSeen) (number : ℕ) (k : GatewayKeys) (o : Option ℕ) → interface_at seen (own_address h k.interface) (Some k.interface) ≡ o → IsMet f seen → number < length seen.host_names → get_or seen.host_names number [] ≡ host_name h →
+gateway_on_if : (f : ℕ) (seen : Seen) (all : List Attachment) (h : HostSeen) (number : ℕ) (k : GatewayKeys) (o : Option ℕ) → interface_by_nhi seen (own_address h k.interface) (Some k.interface) ≡ o → IsMet f seen → number < length seen.host_names → get_or seen.host_names number [] ≡ host_name h →
     IfOk (gateway_on seen all h k o) (IsOut seen all number)
 gateway_on_if f seen all h number k None e met lt named = tt
 gateway_on_if f seen all h number k (Some interface) e met lt named =
@@ -110,8 +110,8 @@ gateway_row_if : (f : ℕ) (seen : Seen) (all : List Attachment) (h : HostSeen) 
     IfOk (gateway_row seen all h o) (λ g. ForSome g (IsOut seen all number))
 gateway_row_if f seen all h number None met lt named = λ g e. (let no : ⊥ = cc in absurd no)
 gateway_row_if f seen all h number (Some k) met lt named =
-    then_if (IsOut seen all number) (λ g. ForSome g (IsOut seen all number)) (gateway_on seen all h k (interface_at seen (own_address h k.interface) (Some k.interface))) (λ g. Ok (Some g))
-    (gateway_on_if f seen all h number k (interface_at seen (own_address h k.interface) (Some k.interface)) refl met lt named)
+    then_if (IsOut seen all number) (λ g. ForSome g (IsOut seen all number)) (gateway_on seen all h k (interface_by_nhi seen (own_address h k.interface) (Some k.interface))) (λ g. Ok (Some g))
+    (gateway_on_if f seen all h number k (interface_by_nhi seen (own_address h k.interface) (Some k.interface)) refl met lt named)
     (λ g out other e. (let same : g ≡ other = cc in subst (IsOut seen all number) same out))
 
 -- the settings of TCP

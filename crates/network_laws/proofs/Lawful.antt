@@ -37,7 +37,7 @@ use Rattle.net_graph.specs.WalkedNets.{seen_by}
 use Rattle.net_graph.specs.Steps.{walked, empty}
 use Rattle.net_graph.specs.Networks.{IsNetwork, IsSmall, IsGateway, IsHost, IsInterface, IsLink, IsKind, IsSession, IsServer, IsId, no_host, no_interface, no_link, no_net, link_size, net_parent, link_sizes, net_parents, attachment_of, link_of}
 use Rattle.net_graph.specs.Networks as rows
-use Rattle.net_graph.specs.NetworkOf.{network_of, network_or, rows_of, rows_with, host_rows, server_rows, linked, link_rows, link_at, attached_numbers, session_row, kind_of, Attachment, attachments, attachments_fault}
+use Rattle.net_graph.specs.NetworkOf.{network_of, network_or, rows_of, rows_with, host_rows, server_rows, linked, link_rows, attached_at, attached_numbers, session_row, kind_of, Attachment, attachments, attachments_fault}
 use Rattle.net_graph.proofs.AllSeen.{walk_is}
 use Rattle.network_laws.proofs.Ranges.{then_if, IsFrequency, frequency_if, IsSessionKeys, IsLinkKeys}
 use Rattle.network_laws.proofs.Places.{Spot, net_spot, link_spot, AreApart}
@@ -138,7 +138,7 @@ interface_row_is f seen all hosts servers i lt = linked_at all 0 seen.interfaces
 link_row_is : (f : ℕ) (seen : Seen) (all : List Attachment) (hosts : List HostRow) (servers : List ServerRow) (l : ℕ) → l < length seen.links → rows.link_at (made f seen all hosts servers) l ≡ with_attached all l (get_or seen.links l no_link_seen)
 link_row_is f seen all hosts servers l lt = link_row_at all 0 seen.links l l no_link no_link_seen (omega arith) lt
 
-attachment_is : (f : ℕ) (seen : Seen) (all : List Attachment) (hosts : List HostRow) (servers : List ServerRow) (i : ℕ) → i < length seen.interfaces → attachment_of (made f seen all hosts servers) i ≡ link_at all i
+attachment_is : (f : ℕ) (seen : Seen) (all : List Attachment) (hosts : List HostRow) (servers : List ServerRow) (i : ℕ) → i < length seen.interfaces → attachment_of (made f seen all hosts servers) i ≡ attached_at all i
 attachment_is f seen all hosts servers i lt = ap (λ (row : InterfaceRow). row.link) (interface_row_is f seen all hosts servers i lt)
 
 interface_lawful : (f : ℕ) (seen : Seen) (all : List Attachment) (hosts : List HostRow) (servers : List ServerRow) → Known f seen all hosts servers → (i : ℕ) → i < length seen.interfaces → IsInterface (made f seen all hosts servers) i (with_link all i (get_or seen.interfaces i no_interface))
@@ -196,11 +196,11 @@ below_any count q xs there any =
     omega arith
 
 -- different interfaces are no more than there are
-few_attached : (count l : ℕ) (all : List Attachment) (xs : List ℕ) → All (λ i. i < count) xs → ((k : ℕ) → k < length xs → link_at all (get_or xs k 0) ≡ Some (l, k)) → length xs ≤ count
+few_attached : (count l : ℕ) (all : List Attachment) (xs : List ℕ) → All (λ i. i < count) xs → ((k : ℕ) → k < length xs → attached_at all (get_or xs k 0) ≡ Some (l, k)) → length xs ≤ count
 few_attached count l all xs there back =
     let apart : AllPairs (λ a b. a ≢ b) xs = λ i j d lt less e.
     (let same : get_or xs i 0 ≡ get_or xs j 0 = different_default xs i j d (omega arith) less e in
-    let places : (let p : Option (ℕ × ℕ) = Some (l, i) in p ≡ Some (l, j)) = sym (back i (omega arith)) ∙ (ap (link_at all) same ∙ back j less) in
+    let places : (let p : Option (ℕ × ℕ) = Some (l, i) in p ≡ Some (l, j)) = sym (back i (omega arith)) ∙ (ap (attached_at all) same ∙ back j less) in
     let pairs : (let p : ℕ × ℕ = (l, i) in p ≡ (l, j)) = cc in
     let one : i ≡ j = ap (λ (p : ℕ × ℕ). p.1) pairs in
     omega arith) in

@@ -5,7 +5,7 @@ use Rattle.std.proofs.lemmas.List.Sums.{sum_by-cons}
 use Rattle.net_graph.specs.declared.rows.InterfaceRow.{InterfaceRow}
 use Rattle.net_graph.specs.declared.rows.LinkRow.{LinkRow}
 use Rattle.net_graph.specs.declared.seen.LinkSeen.{LinkSeen}
-use Rattle.net_graph.specs.NetworkOf.{Attachment, linked, link_rows, link_at, attached_numbers}
+use Rattle.net_graph.specs.NetworkOf.{Attachment, linked, link_rows, attached_at, attached_numbers}
 use Rattle.network_laws.proofs.Parts.{downs_at}
 
 -- items that are numbered from n on
@@ -25,7 +25,7 @@ each_at P n (x ∷ xs) (suc i) m d each e lt = each_at P (n + 1) xs i m d each.1
 -- interfaces with their links
 
 abbrev pub with_link : List Attachment → ℕ → InterfaceRow → InterfaceRow
-with_link all n row = record row { link = link_at all n }
+with_link all n row = record row { link = attached_at all n }
 
 pub length-linked : (all : List Attachment) (n : ℕ) (rows : List InterfaceRow) → length (linked all n rows) ≡ length rows
 length-linked all n [] = refl

@@ -1,7 +1,7 @@
 use Rattle.std.proofs.Common.{◌≡◌, ℕ, ◌+◌, List, [], ◌∷◌, length, map, drop, Some, Ok, arith, ap, ap₂, sym, ◌∙◌, length-append}
 use Rattle.std.proofs.lemmas.List.{drop_all}
 use Rattle.nhi_address.specs.NhiFields.{NhiFields}
-use Rattle.net_graph.specs.NetworkOf.{attachments_of, full, interface_at}
+use Rattle.net_graph.specs.NetworkOf.{attachments_of, full, interface_by_nhi}
 use Rattle.net_resolve.specs.Tables.{attachment_to, interface_of, put, put_all}
 use Rattle.net_resolve.proofs.Attaching.{attach_turn, attach_stop, attach_end, numbers_turn}
 use Rattle.net_resolve.proofs.Turns.{drop_item, exit, later}
@@ -28,7 +28,7 @@ loop-nhi-preserved c =
     let is = drop_item nhis i nhi c.loop-nhi-test.true c.nhi-item.is in
     let here : put p (attachment_to seen number (length before) (full path nhi)) ≡ Ok q =
     ap₂ (λ (k : ℕ) (w : NhiFields). put p (attachment_to seen number k w)) (sym at) (sym c.in_ok-nhi.ensures) ∙ c.in_ok-interface.ensures.put in
-    let there : interface_at seen (full path nhi) nhi.interface ≡ Some n = ap (λ (w : NhiFields). interface_at seen w w.interface) (sym c.in_ok-nhi.ensures) ∙ c.in_ok-interface.ensures.number in
+    let there : interface_by_nhi seen (full path nhi) nhi.interface ≡ Some n = ap (λ (w : NhiFields). interface_by_nhi seen w w.interface) (sym c.in_ok-nhi.ensures) ∙ c.in_ok-interface.ensures.number in
     let longer : length after ≡ length before + 1 = ap (λ (l : List ℕ). length l) c.in_ok-push.ensures.items ∙ length-append before (n ∷ []) in
     record {
       put = attach_turn seen number path whole p q (length before) (drop i nhis) (drop (i + 1) nhis) nhi c.loop-nhi.invariant.put is here
