@@ -1,3 +1,4 @@
 pub mod Looping
 pub mod Reaching
 pub mod Routing
+pub mod Tabling

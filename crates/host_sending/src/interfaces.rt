@@ -8,8 +8,7 @@ ghost use Rattle.host_rules.specs.Hosts.{Stack as StackFields};
 ghost use Rattle.host_rules.specs.Sending.{answered, next_hop};
 ghost use Rattle.host_sending.specs.Sites.{after_offers};
 
-use crate::site::route_at;
-use crate::{Site, lookup};
+use crate::{Routes, Site, lookup};
 use host_rules::HostPort;
 use ip_layer::{Packet, Verdict};
 use net_iface::{Interface, Offer};
@@ -181,7 +180,7 @@ impl Interfaces {
     pub fn follow(
         &mut self,
         site: &Site,
-        routes: &[Route],
+        routes: &Routes,
         now: u64,
         packet: &Packet,
         verdict: Verdict,
@@ -195,13 +194,7 @@ impl Interfaces {
     {
         match verdict {
             Verdict::Local => Ok(()),
-            Verdict::Forward(place) => self.forward(
-                site,
-                route_at(routes, place),
-                now,
-                packet,
-                out,
-            ),
+            Verdict::Forward(place) => self.forward(site, routes.route(place), now, packet, out),
             Verdict::Dropped(reason) => tell_dropped(reason, packet, out),
         }
     }
@@ -221,7 +214,7 @@ impl Interfaces {
         ensures lines { (s : Stack) → OnOk result (out.new.lines ≡ out.old.lines ++ (sending site.now now packet.now (with_interfaces self.old s)).lines) }
     {
         let routes = site.routes(now);
-        let verdict = site.sent(routes, packet);
-        self.follow(site, routes, now, packet, verdict, out)
+        let verdict = site.sent(&routes, packet);
+        self.follow(site, &routes, now, packet, verdict, out)
     }
 }

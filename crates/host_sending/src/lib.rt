@@ -8,7 +8,9 @@
 mod acts;
 mod interfaces;
 mod lookup;
+mod routes;
 mod site;
 
 pub use interfaces::{Interfaces, tell_dropped};
-pub use site::{Site, own_addresses};
+pub use routes::Routes;
+pub use site::{Site, own_addresses, tables_of};

@@ -1,22 +1,23 @@
 //! The rows of a host, in their ranges.
-ghost use Rattle.std.specs.Prelude.{◌≡◌, ◌<◌, length, IfOk};
-ghost use Rattle.spf_routes.specs.Best.{route_at};
+ghost use Rattle.std.specs.Prelude.{◌≡◌, length, IfOk};
 ghost use Rattle.host_rules.specs.Sending.{own_addresses};
+ghost use Rattle.host_sending.specs.Sites.{AreTables};
 
-use crate::lookup;
+use crate::{Routes, lookup, routes};
 use host_rules::{HostPort, HostRows};
 use ip_layer::{Packet, Verdict};
+use route_table::RouteTable;
 use sim_base::{ClientRow, Memory, ServerRow};
-use spf_routes::Route;
 use std::alloc::Global;
 use std::marker::Model;
 
-/// The rows of a host in their ranges, and with them the addresses of its interfaces. Contracts see
-/// the rows.
+/// The rows of a host in their ranges, and with them the addresses of its interfaces and a table of
+/// the best routes for each period. Contracts see the rows.
 #[derive(Drop)]
 pub struct Site {
     rows: HostRows,
     own: Vec<u32>,
+    tables: Vec<RouteTable>,
 }
 
 impl Model for Site {
@@ -27,7 +28,7 @@ impl Model for Site {
 
     ghost view = { λ s. s.rows };
 
-    ghost invariant = { λ s. IsSite s.rows s.own.items };
+    ghost invariant = { λ s. IsSite s.rows s.own.items s.tables.items };
 }
 
 /// The addresses of the interfaces of a host.
@@ -44,30 +45,36 @@ pub fn own_addresses(alloc: Global, rows: &HostRows) -> Result<Vec<u32>, Memory>
     )
 }
 
-/// The route of this place.
-pub(crate) fn route_at(routes: &[Route], place: usize) -> &Route
-    requires { place < length routes.now }
-    ensures { result.now ≡ route_at routes.now place }
+/// For each period of a host a table of its best routes.
+pub fn tables_of(alloc: Global, rows: &HostRows) -> Result<Vec<RouteTable>, Memory>
+    ensures { IfOk result (λ tables. AreTables rows.now.routes (length rows.now.routes) tables.items) }
 {
-    &routes[place]
+    let periods = rows.routes.as_slice();
+    let mut tables = Vec::new(alloc);
+    for place in 0..periods.len() {
+        tables.push(RouteTable::new(alloc, lookup::routes_in(periods, place))?)?;
+    }
+    Ok(tables)
 }
 
 impl Site {
-    ghost use Rattle.std.specs.Prelude.{◌≡◌, [], slice_get};
+    ghost use Rattle.std.specs.Prelude.{◌≡◌, [], length, slice_get};
     ghost use Rattle.std.specs.Option.{option_copied};
     ghost use Rattle.ip_layer.specs.Forwarding.{sent, received};
     ghost use Rattle.host_rules.specs.Hosts.{Stack};
     ghost use Rattle.host_rules.specs.Sending.{own_addresses, source_to, routes_among, address_of};
     ghost use Rattle.host_rules.specs.Hearing.{listens_on, server_address};
     ghost use Rattle.host_rules.specs.Limits.{AreRows};
+    ghost use Rattle.host_sending.specs.Sites.{AreTables};
 
-    /// A host with these rows, and these addresses.
-    pub fn of(rows: HostRows, own: Vec<u32>) -> Site
+    /// A host with these rows, these addresses, and these tables of its periods.
+    pub fn of(rows: HostRows, own: Vec<u32>, tables: Vec<RouteTable>) -> Site
         requires ranges { AreRows rows }
         requires own { own.items ≡ own_addresses rows }
+        requires tables { AreTables rows.routes (length rows.routes) tables.items }
         ensures { result ≡ rows }
     {
-        Site { rows, own }
+        Site { rows, own, tables }
     }
 
     /// Tells a proof that the rows are in their ranges.
@@ -85,24 +92,28 @@ impl Site {
     }
 
     /// The routes at this tick.
-    pub fn routes(&self, now: u64) -> &[Route]
-        ensures { result.now ≡ routes_among [] self.now.routes now }
+    pub fn routes(&self, now: u64) -> Routes<'_>
+        ensures { result ≡ routes_among [] self.now.routes now }
     {
-        lookup::routes_among(self.rows.routes.as_slice(), now)
+        let periods = self.rows.routes.as_slice();
+        match lookup::last_begun(periods, now) {
+            Some(place) => Routes::of(lookup::routes_in(periods, place), &self.tables[place]),
+            None => Routes::none(),
+        }
     }
 
     /// What becomes of a packet of the host's own, by these routes.
-    pub fn sent(&self, routes: &[Route], packet: &Packet) -> Verdict
+    pub fn sent(&self, routes: &Routes, packet: &Packet) -> Verdict
         ensures { result ≡ sent (own_addresses self.now) routes.now packet.now }
     {
-        ip_layer::send(self.own.as_slice(), routes, packet)
+        routes::sent(self.own.as_slice(), routes, packet)
     }
 
     /// What becomes of a packet that comes, by these routes.
-    pub fn received(&self, routes: &[Route], packet: &Packet) -> Verdict
+    pub fn received(&self, routes: &Routes, packet: &Packet) -> Verdict
         ensures { result ≡ received (own_addresses self.now) routes.now packet.now }
     {
-        ip_layer::receive(self.own.as_slice(), routes, packet)
+        routes::received(self.own.as_slice(), routes, packet)
     }
 
     /// Whether the host serves on this port.
@@ -126,8 +137,8 @@ impl Site {
         ensures { (s : Stack) → result ≡ source_to self.now s now peer }
     {
         let routes = self.routes(now);
-        match ip_layer::best_place(routes, peer) {
-            Some(place) => self.address_of(route_at(routes, place).interface),
+        match routes.best(peer) {
+            Some(place) => self.address_of(routes.route(place).interface),
             None => 0,
         }
     }

@@ -249,9 +249,9 @@ impl Stack {
     {
         site.known();
         let routes = site.routes(now);
-        match site.received(routes, packet) {
+        match site.received(&routes, packet) {
             Verdict::Local => self.take_packet(alloc, site, now, packet, out),
-            verdict => self.follow(site, routes, now, &passed_on(packet), verdict, out),
+            verdict => self.follow(site, &routes, now, &passed_on(packet), verdict, out),
         }
     }
 }

@@ -1,10 +1,9 @@
 //! What events change of a host.
 use host_rules::Sockets;
-use host_sending::{Interfaces, Site};
+use host_sending::{Interfaces, Routes, Site};
 use host_sessions::Sessions;
 use ip_layer::{Packet, Verdict};
 use sim_base::Memory;
-use spf_routes::Route;
 use ssf_model::Out;
 use std::marker::Model;
 use tcp_session::Act;
@@ -41,7 +40,7 @@ impl Stack {
     pub(crate) fn follow(
         &mut self,
         site: &Site,
-        routes: &[Route],
+        routes: &Routes,
         now: u64,
         packet: &Packet,
         verdict: Verdict,

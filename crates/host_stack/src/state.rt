@@ -7,17 +7,19 @@ ghost use Rattle.host_rules.specs.declared.rows.HostPort.{HostPort as HostPortVa
 ghost use Rattle.host_rules.specs.Hosts.{starts_of, idle_interface, first_stack};
 ghost use Rattle.host_rules.specs.Sending.{own_addresses};
 ghost use Rattle.host_rules.specs.Limits.{AreRows, IsTimedClient};
+ghost use Rattle.host_sending.specs.Sites.{AreTables};
 ghost use Rattle.host_stack.specs.Keeping.{IsState};
 
 use crate::Stack;
 use host_roles::{Process, is_placed, process_at};
 use host_rules::{HostPort, HostRows};
-use host_sending::{Interfaces, Site, own_addresses};
+use host_sending::{Interfaces, Site, own_addresses, tables_of};
 use host_sessions::Sessions;
 use ip_layer::Packet;
 use net_iface::Interface;
 use rand_core::SeedableRng;
 use rand_pcg::Pcg32;
+use route_table::RouteTable;
 use sim_base::Memory;
 use ssf_model::{Out, Process as EntityProcess, Wait, Wake};
 use std::alloc::Global;
@@ -93,11 +95,12 @@ fn first_stack(alloc: Global, rows: &HostRows) -> Result<Stack, Memory>
     })
 }
 
-/// What a host has besides its rows, before its first event: the addresses of its interfaces, the
-/// starts of its client sessions, and what events change.
+/// What a host has besides its rows, before its first event: the addresses of its interfaces, a
+/// table of the best routes for each period, the starts of its client sessions, and what events change.
 #[derive(Drop)]
 struct Parts {
     own: Vec<u32>,
+    tables: Vec<RouteTable>,
     starts: Vec<u64>,
     stack: Stack,
 }
@@ -106,14 +109,21 @@ struct Parts {
 fn parts_of(alloc: Global, rows: &HostRows) -> Result<Parts, Memory>
     requires { AreRows rows.now }
     ensures own { IfOk result (λ parts. parts.own.items ≡ own_addresses rows.now) }
+    ensures tables { IfOk result (λ parts. AreTables rows.now.routes (length rows.now.routes) parts.tables.items) }
     ensures starts { IfOk result (λ parts. parts.starts.items ≡ starts_of rows.now) }
     ensures stack { IfOk result (λ parts. parts.stack ≡ first_stack rows.now) }
     ensures valid { IfOk result (λ parts. IsState rows.now parts.starts.items parts.stack) }
 {
     let own = own_addresses(alloc, rows)?;
+    let tables = tables_of(alloc, rows)?;
     let starts = draw_starts(alloc, rows)?;
     let stack = first_stack(alloc, rows)?;
-    Ok(Parts { own, starts, stack })
+    Ok(Parts {
+        own,
+        tables,
+        starts,
+        stack,
+    })
 }
 
 impl HostState {
@@ -131,9 +141,14 @@ impl HostState {
         requires { AreRows rows }
         ensures { IfOk result (λ state. state ≡ first_host rows) }
     {
-        let Parts { own, starts, stack } = parts_of(alloc, &rows)?;
+        let Parts {
+            own,
+            tables,
+            starts,
+            stack,
+        } = parts_of(alloc, &rows)?;
         Ok(HostState {
-            site: Site::of(rows, own),
+            site: Site::of(rows, own, tables),
             starts,
             stack,
         })

@@ -1,5 +1,5 @@
 use Rattle.host_sending.proofs.Routing.{best_in}
 use Rattle.host_sending.proofs.site.Site.source_to.Goals as goal
 
-pub route_at-requires : goal.route_at-requires
-route_at-requires c = best_in _ _ _ c.in-Some.ensures
+pub route-requires : goal.route-requires
+route-requires c = best_in _ _ _ c.in-Some.ensures
