@@ -10,7 +10,7 @@ use Rattle.ssf_model.specs.declared.plan.Plan.{Plan}
 use Rattle.ssf_model.specs.Reaction.{Reaction, Validity, KeepsValid, LatestTime}
 use Rattle.ssf_model.specs.Deliver.{IsModest}
 use Rattle.ssf_model.specs.Run.{States, Fits}
-use Rattle.ssf_model.specs.Scene.{Scene, Net, scene_of, event_at}
+use Rattle.ssf_model.specs.Scene.{Scene, Net, scene_of, event_at, time_of}
 use Rattle.ssf_model.specs.Truth.{is_on_line, line_events, AreFew, IsWindow}
 use Rattle.sync_rules.specs.Shared.{IsShared}
 use Rattle.sync_rules.specs.Sound.{IsOwnEvent}
@@ -24,10 +24,10 @@ use Rattle.timeline.proofs.Free.{over_is}
 use Rattle.core_rules.specs.Cores.{CoreView}
 use Rattle.core_rules.specs.Reading.{least_low_in, safe_bound_in, BudgetEndsIn}
 use Rattle.core_rules.proofs.Parts.{timeline_known, timeline_there}
-use Rattle.core_rules.proofs.Reading.{ended_reached, budget_event, budget_bound, budget_least}
+use Rattle.core_rules.proofs.Reading.{ended_reached, safe_reached, budget_event, budget_bound, budget_least}
 use Rattle.core_traces.specs.Records.{AreEntriesBelow, AreAllEntries}
 use Rattle.core_traces.specs.Kept.{IsCoreFrom}
-use Rattle.core_traces.specs.Ends.{AreWindows, EndsBudget}
+use Rattle.core_traces.specs.Ends.{AreWindows, IsInBudget, EndsBudget}
 use Rattle.core_traces.proofs.Records.{is_there}
 use Rattle.core_traces.proofs.Runs.{time_is}
 use Rattle.core_traces.proofs.Keeps.{on_own}
@@ -53,14 +53,20 @@ module _ {X E : Type 0} (s : Scene X E) where
       let second = q.at in
       omega (arith, up, down, first, second)
 
-  pub not_few : (budget i f : ℕ) → AreFew s budget → EndsBudget s budget i f → ⊥
-  not_few budget i f few p =
-      let next = share_own s.machine s.until s.kept s.opening (is_on_line s i) p.number p.event p.own.is p.own.own in
+  none_past : (budget i k : ℕ) (e : E) → AreFew s budget → IsOwnEvent s i budget k e → ⊥
+  none_past budget i k e few own =
+      let next = share_own s.machine s.until s.kept s.opening (is_on_line s i) k e own.is own.own in
       let long = ap length next in
-      let parts = length-append (line_events s i p.number) (p.event ∷ []) in
-      let count = p.own.count in
-      let most = few i (suc p.number) in
+      let parts = length-append (line_events s i k) (e ∷ []) in
+      let count = own.count in
+      let most = few i (suc k) in
       omega (arith, long, parts, count, most)
+
+  pub not_few : (budget i f : ℕ) → AreFew s budget → EndsBudget s budget i f → ⊥
+  not_few budget i f few p = none_past budget i p.number p.event few p.own
+
+  pub few_in_budget : (budget f : ℕ) → AreFew s budget → IsInBudget s budget f
+  few_in_budget budget f few j k e own = absurd (none_past budget j k e few own)
 
   module _ (sh : IsShared s) where
     -- a run that has a window has all before it
@@ -100,8 +106,8 @@ module _ {B S P : Type 0} (r : Reaction S P) (valid : Validity S) (carried : P �
   s = scene_of r plan until kept line net
 
   module _ (ended : core.barrier.ended ≡ true) where
-    reached : (j : ℕ) (e : Event P) → event_at s j ≡ Some e → j < q.at (s.line e)
-    reached j e is = ended_reached r valid carried law modest plan until in_time fits kept line net core q.at q.before (on_own r valid carried law modest plan until in_time fits kept line net budget core g q) q.sound ended j e is
+    all_reached : (j : ℕ) (e : Event P) → event_at s j ≡ Some e → j < q.at (s.line e)
+    all_reached j e is = ended_reached r valid carried law modest plan until in_time fits kept line net core q.at q.before (on_own r valid carried law modest plan until in_time fits kept line net budget core g q) q.sound ended j e is
 
     -- all timelines stand in the last window
     past_window : core.barrier.window ≤ safe_bound_in core
@@ -129,6 +135,8 @@ module _ {B S P : Type 0} (r : Reaction S P) (valid : Validity S) (carried : P �
       ];
     }
 
+  -- where all events of the run are executed
+  module _ (reached : (j : ℕ) (e : Event P) → event_at s j ≡ Some e → j < q.at (s.line e)) where
     none_on : (i n : ℕ) → ((j : ℕ) (e : Event P) → n ≤ j → event_at s j ≡ Some e → s.line e ≡ i → ⊥) → (j : ℕ) (e : Event P) → n ≤ j → event_at s j ≡ Some e → is_on_line s i e ≡ false
     none_on i n none j e from is = elim (test_cases (is_on_line s i e)) [
       | inl t ↦ absurd (none j e from is (eqb-true (s.line e) i t))
@@ -161,8 +169,34 @@ module _ {B S P : Type 0} (r : Reaction S P) (valid : Validity S) (carried : P �
         omega (arith, there, unknown))))) in
         omega (arith, same)
 
-    pub ended_few : AreFew s budget
-    ended_few i n = elim (lt_or_ge i s.net.timelines) [ inl known ↦ few_there i n known | inr unknown ↦ few_else i n unknown ]
+    pub reached_few : AreFew s budget
+    reached_few i n = elim (lt_or_ge i s.net.timelines) [ inl known ↦ few_there i n known | inr unknown ↦ few_else i n unknown ]
+
+  pub ended_few : core.barrier.ended ≡ true → AreFew s budget
+  ended_few ended = reached_few (λ j e is. all_reached ended j e is)
+
+  -- an event before the safe bound is executed, and no timeline executes more than the budget
+  pub safe_in_budget : IsInBudget s budget (safe_bound_in core)
+  safe_in_budget j k e own = elim (lt_or_ge (time_of s e) (safe_bound_in core)) [
+    | inr late ↦ late
+    | inl early ↦ absurd (
+        let on = on_own r valid carried law modest plan until in_time fits kept line net budget core g q in
+        let there : s.line e ≡ j = eqb-true (s.line e) j own.own in
+        let done : k < q.at (s.line e) = safe_reached r valid carried law modest plan until in_time fits kept line net core q.at q.before on q.sound k e own.is early in
+        let here : k < q.at j = subst (λ i. k < q.at i) there done in
+        let known : j < s.net.timelines = subst (λ i. i < s.net.timelines) there (q.run.shared.placed k e own.is) in
+        let found = timeline_there plan line s core q.at q.before q.sound j known in
+        let part = q.sound.each j found.0 found.1 in
+        let executed = part.sound.counted.executed in
+        let few = part.sound.counted.few in
+        let top = q.most in
+        let most = part.budget in
+        let count = own.count in
+        let next = ap length (share_own s.machine s.until s.kept s.opening (is_on_line s j) k e own.is own.own) in
+        let parts = length-append (line_events s j k) (e ∷ []) in
+        let up = line_grows s j (suc k) (q.at j) here in
+        omega (arith, executed, few, top, most, count, next, parts, up))
+  ]
 
   pub budget_ends : (i : ℕ) → BudgetEndsIn core i → EndsBudget s budget i (safe_bound_in core)
   budget_ends i b =

@@ -132,6 +132,67 @@ module _ {B S P : Type 0} (r : Reaction S P) (valid : Validity S) (carried : P �
               let here : q.number < at i = subst (λ n. q.number < at n) own done in omega (arith, here, from))
         ]
 
+    -- ---- steps
+
+    module _ (after : CoreView B S P) (n : ℕ) (l : LeadsTo plan line s core at n after) where
+      pub on_after : IsRunOnLines plan line after.budget s
+      on_after = subst (λ m. IsRunOnLines plan line m s) (sym l.budget) on
+
+      pub led_safe : safe_bound_in core ≤ safe_bound_in after
+      led_safe =
+          let one = safe_same r valid carried law modest plan until in_time fits kept line net core at v on sound in
+          let two = safe_same r valid carried law modest plan until in_time fits kept line net after l.next l.before on_after l.sound in
+          let up = steps_safe s on.shared core.budget n v (core_as s.net at core) (core_as s.net l.next after) sound.all l.steps in
+          omega (arith, one, two, up)
+
+    -- ---- what is kept of entries from a time on
+
+    module _ (g : ℕ) (keeps : IsKeptFrom s core at g) where
+      -- by later parts of the run, whose histories have grown
+      pub grown_kept : g ≤ safe_bound_in core → (after : CoreView B S P) (next : ℕ → ℕ) (w : ℕ) → IsSoundFor plan line s after next w → HaveGrown core after → IsKeptFrom s after next g
+      grown_kept low after next w there grown i u got =
+          let known = timeline_known plan line s after next w there i u got in
+          let found = timeline_there plan line s core at v sound i known in
+          let t : TimelineOf B S P = found.0 in
+          let more = grown i t found.1 in
+          let same : more.0 ≡ u = one_of more.0 u (sym more.1 ∙ got) in
+          let history : u.history ≡ t.history ++ more.2 = ap (λ (z : TimelineOf B S P). z.history) (sym same) ∙ more.3 in
+          let executed : u.executed ≡ t.executed + length more.2 = ap (λ (z : TimelineOf B S P). z.executed) (sym same) ∙ more.4 in
+          let part : IsPartOf plan line s after i (next i) u = there.each i u got in
+          let first = as_executed i t found.1 in
+          let second = as_long s (is_on_line s i) (next i) ∙ sym part.sound.counted.executed in
+          kept_on s i (at i) (next i) g t.history more.2 u.history part.sound.given_up (keeps i t found.1) history part.sound.history
+          (omega (arith, first, second, executed))
+          (λ x told. (let late = told_late i x told in omega (arith, late, low)))
+
+      -- and where the entries before a later time are given up
+      module _ (below : ℕ) (order : g ≤ below) where
+        abbrev left : CoreView B S P
+        left = without_below below core
+
+        pub stays : LeadsTo plan line s core at 0 left
+        stays = given_up_stays r valid carried law modest plan until in_time fits kept line net core at v on sound below
+
+        -- each timeline stands where it stood
+        same_moment : (i : ℕ) (t : TimelineOf B S P) → slice_get core.timelines i ≡ Some t → (u : TimelineOf B S P) → slice_get left.timelines i ≡ Some u → at i ≡ stays.next i
+        same_moment i t own u got =
+            ap (λ (l : Line (Event P)). l.moment) (sym (line_here plan line s core at v sound i t own))
+            ∙ (ap (λ (c : CoreOf (Event P)). (c.lines i).moment) stays.steps
+            ∙ ap (λ (l : Line (Event P)). l.moment) (line_here plan line s left stays.next stays.before stays.sound i u got))
+
+        pub left_kept : IsKeptFrom s left stays.next below
+        left_kept i u got =
+            let found = map_there (without below) core.timelines i u got in
+            let t : TimelineOf B S P = found.0 in
+            let rising : IsRising key_in (line_entries s i (at i)) = line_rises r plan until kept line net (fits_open valid carried plan fits) i (at i) in
+            let history : filter (λ (x : Entry). nat_le below x.key.time) t.history ≡ u.history = ap (λ (z : TimelineOf B S P). z.history) found.2 in
+            subst (λ (xs : List Entry). AreKept below (line_entries s i (stays.next i)) xs) history
+            (subst (λ n. AreKept below (line_entries s i n) (filter (λ (x : Entry). nat_le below x.key.time) t.history)) (same_moment i t found.1 u got)
+            (kept_later g below (line_entries s i (at i)) t.history order rising (keeps i t found.1)))
+
+        pub left_safe : below ≤ safe_bound_in core → below ≤ safe_bound_in left
+        left_safe safe = subst (λ n. below ≤ n) (sym (low_without below (core.until + 1) core.timelines)) safe
+
   module _ (budget : ℕ) (core : CoreView B S P) (g : ℕ) (q : IsCoreFrom plan line s budget core g) where
     pub on_own : IsRunOnLines plan line core.budget s
     on_own = subst (λ n. IsRunOnLines plan line n s) (sym q.most) q.run
@@ -139,35 +200,12 @@ module _ {B S P : Type 0} (r : Reaction S P) (valid : Validity S) (carried : P �
     -- ---- steps
 
     module _ (after : CoreView B S P) (n : ℕ) (l : LeadsTo plan line s core q.at n after) where
-      on_after : IsRunOnLines plan line after.budget s
-      on_after = subst (λ m. IsRunOnLines plan line m s) (sym (l.budget ∙ q.most)) q.run
-
       pub leads_safe : safe_bound_in core ≤ safe_bound_in after
-      leads_safe =
-          let one = safe_same r valid carried law modest plan until in_time fits kept line net core q.at q.before on_own q.sound in
-          let two = safe_same r valid carried law modest plan until in_time fits kept line net after l.next l.before on_after l.sound in
-          let up = steps_safe s q.run.shared core.budget n q.before (core_as s.net q.at core) (core_as s.net l.next after) q.sound.all l.steps in
-          omega (arith, one, two, up)
+      leads_safe = led_safe core q.at q.before on_own q.sound after n l
 
-      pub leads_in : AreInWindow after
-      leads_in = in_parts after l.next l.before on_after l.sound
+      leads_in : AreInWindow after
+      leads_in = in_parts after l.next l.before (on_after core q.at q.before on_own q.sound after n l) l.sound
           (steps_in s q.run.shared core.budget n q.before (core_as s.net q.at core) (core_as s.net l.next after) q.sound.all l.steps (in_rules core q.at q.before on_own q.sound q.reported))
-
-      leads_kept : HaveGrown core after → IsKeptFrom s after l.next g
-      leads_kept grown i u got =
-          let known = timeline_known plan line s after l.next l.before l.sound i u got in
-          let found = timeline_there plan line s core q.at q.before q.sound i known in
-          let t : TimelineOf B S P = found.0 in
-          let more = grown i t found.1 in
-          let same : more.0 ≡ u = one_of more.0 u (sym more.1 ∙ got) in
-          let history : u.history ≡ t.history ++ more.2 = ap (λ (z : TimelineOf B S P). z.history) (sym same) ∙ more.3 in
-          let executed : u.executed ≡ t.executed + length more.2 = ap (λ (z : TimelineOf B S P). z.executed) (sym same) ∙ more.4 in
-          let part : IsPartOf plan line s after i (l.next i) u = l.sound.each i u got in
-          let first = as_executed core q.at q.before on_own q.sound i t found.1 in
-          let second = as_executed after l.next l.before on_after l.sound i u got in
-          kept_on s i (q.at i) (l.next i) g t.history more.2 u.history part.sound.given_up (q.keeps i t found.1) history part.sound.history
-          (omega (arith, first, second, executed))
-          (λ x told. (let late = told_late core q.at q.before on_own q.sound i x told in let low = q.safe in omega (arith, late, low)))
 
       pub leads_on : HaveGrown core after → IsCoreFrom plan line s budget after g
       leads_on grown = record {
@@ -176,7 +214,7 @@ module _ {B S P : Type 0} (r : Reaction S P) (valid : Validity S) (carried : P �
         before = l.before;
         sound = l.sound;
         most = l.budget ∙ q.most;
-        keeps = leads_kept grown;
+        keeps = grown_kept core q.at q.before on_own q.sound g q.keeps q.safe after l.next l.before l.sound grown;
         reported = leads_in;
         safe = (let low = q.safe in let up = leads_safe in omega (arith, low, up));
       }
@@ -184,44 +222,24 @@ module _ {B S P : Type 0} (r : Reaction S P) (valid : Validity S) (carried : P �
     -- ---- entries that are given up
 
     module _ (below : ℕ) (order : g ≤ below) (safe : below ≤ safe_bound_in core) where
-      abbrev left : CoreView B S P
-      left = without_below below core
+      abbrev given_up : LeadsTo plan line s core q.at 0 (without_below below core)
+      given_up = stays core q.at q.before on_own q.sound g q.keeps below order
 
-      stays : LeadsTo plan line s core q.at 0 left
-      stays = given_up_stays r valid carried law modest plan until in_time fits kept line net core q.at q.before on_own q.sound below
-
-      -- each timeline stands where it stood
-      same_moment : (i : ℕ) (t : TimelineOf B S P) → slice_get core.timelines i ≡ Some t → (u : TimelineOf B S P) → slice_get left.timelines i ≡ Some u → q.at i ≡ stays.next i
-      same_moment i t own u got =
-          ap (λ (l : Line (Event P)). l.moment) (sym (line_here plan line s core q.at q.before q.sound i t own))
-          ∙ (ap (λ (c : CoreOf (Event P)). (c.lines i).moment) stays.steps
-          ∙ ap (λ (l : Line (Event P)). l.moment) (line_here plan line s left stays.next stays.before stays.sound i u got))
-
-      left_kept : IsKeptFrom s left stays.next below
-      left_kept i u got =
-          let found = map_there (without below) core.timelines i u got in
-          let t : TimelineOf B S P = found.0 in
-          let rising : IsRising key_in (line_entries s i (q.at i)) = line_rises r plan until kept line net (fits_open valid carried plan fits) i (q.at i) in
-          let history : filter (λ (x : Entry). nat_le below x.key.time) t.history ≡ u.history = ap (λ (z : TimelineOf B S P). z.history) found.2 in
-          subst (λ (xs : List Entry). AreKept below (line_entries s i (stays.next i)) xs) history
-          (subst (λ n. AreKept below (line_entries s i n) (filter (λ (x : Entry). nat_le below x.key.time) t.history)) (same_moment i t found.1 u got)
-          (kept_later g below (line_entries s i (q.at i)) t.history order rising (q.keeps i t found.1)))
-
-      left_in : AreInWindow left
+      left_in : AreInWindow (without_below below core)
       left_in i u got told =
           let found = map_there (without below) core.timelines i u got in
           let low = q.reported i found.0 found.1 told in
           let same : low_in found.0 ≡ low_in u = ap low_in found.2 in
           omega (arith, low, same)
 
-      pub gives_up : IsCoreFrom plan line s budget left below
+      pub gives_up : IsCoreFrom plan line s budget (without_below below core) below
       gives_up = record {
         run = q.run;
-        at = stays.next;
-        before = stays.before;
-        sound = stays.sound;
+        at = given_up.next;
+        before = given_up.before;
+        sound = given_up.sound;
         most = q.most;
-        keeps = left_kept;
+        keeps = left_kept core q.at q.before on_own q.sound g q.keeps below order;
         reported = left_in;
-        safe = subst (λ n. below ≤ n) (sym (low_without below (core.until + 1) core.timelines)) safe;
+        safe = left_safe core q.at q.before on_own q.sound g q.keeps below order safe;
       }

@@ -8,3 +8,4 @@ pub mod Merging
 pub mod Room
 pub mod Ends
 pub mod Cuts
+pub mod Unreported

@@ -127,15 +127,12 @@ module _ {B S P : Type 0} (r : Reaction S P) (valid : Validity S) (carried : P �
 
   -- ---- behind the entries before g
 
-  module _ (f : ℕ) (es : List Entry) (order : g ≤ f) (safe : f ≤ safe_bound_in core) (p : AreEntriesBelow r plan until kept g es) where
+  module _ (f : ℕ) (es : List Entry) (order : g ≤ f) (reached : HasReached s f at) (p : AreEntriesBelow r plan until kept g es) where
     cut : IsCut s g p.count
     cut = below_cut r plan until kept line net sh g es p
 
     es_are : es ≡ all_entries s p.count
     es_are = p.are ∙ run_is_all r plan until kept line net p.count
-
-    reached : HasReached s f at
-    reached j e is early = safe_reached r valid carried law modest plan until in_time fits kept line net core at q.before (on_own r valid carried law modest plan until in_time fits kept line net budget core g q) q.sound j e is (omega (arith, early, safe))
 
     told_first : (x : Entry) → Among x es → IsToldBy s (λ e. true) p.count x
     told_first x a = among_told s (λ e. true) p.count x (subst (λ xs. Among x xs) es_are a)
@@ -189,9 +186,14 @@ module _ {B S P : Type 0} (r : Reaction S P) (valid : Validity S) (carried : P �
       whole = on_whole;
     }
 
-    pub next_records : AreEntriesBelow r plan until kept f (es ++ merged hs f)
-    next_records =
+    pub reached_records : AreEntriesBelow r plan until kept f (es ++ merged hs f)
+    reached_records =
         let c = cut_at s sh f in
         let m = moment s f c.0 c.1 in
         moment_below r plan until kept line net f m.0 (es ++ merged hs f) m.1
         (merged_is_run r plan until kept line net (fits_open valid carried plan fits) f m.0 at (es ++ merged hs f) m.1.cut reached are_merged ∙ sym (run_is_all r plan until kept line net m.0))
+
+  pub next_records : (f : ℕ) (es : List Entry) → g ≤ f → f ≤ safe_bound_in core → AreEntriesBelow r plan until kept g es → AreEntriesBelow r plan until kept f (es ++ merged hs f)
+  next_records f es order safe p = reached_records f es order
+      (λ j e is early. safe_reached r valid carried law modest plan until in_time fits kept line net core at q.before (on_own r valid carried law modest plan until in_time fits kept line net budget core g q) q.sound j e is (omega (arith, early, safe)))
+      p

@@ -60,6 +60,22 @@ module _ {B S P : Type 0} where
     pub reported : AreInWindow core
     pub safe : g ≤ safe_bound_in core
 
+  -- the same, but that nothing is told of the timelines that have reported
+  pub record AreSoundFrom (plan : Plan B S P) (line : ℕ → ℕ) (s : Scene (States B S P) (Event P)) (budget : ℕ) (core : CoreView B S P) (g : ℕ) : Type 0 where
+    pub run : IsRunOnLines plan line budget s
+    pub at : ℕ → ℕ
+    pub before : ℕ
+    pub sound : IsSoundFor plan line s core at before
+    pub most : core.budget ≡ budget
+    pub keeps : IsKeptFrom s core at g
+    pub safe : g ≤ safe_bound_in core
+
+  -- the law holds of all parts, for the run of each plan that fits
+  abbrev pub OfEachSoundFrom : Validity S → (P → Type 0) → Reaction S P
+      → (Plan B S P → (ℕ → ℕ) → Scene (States B S P) (Event P) → ℕ → CoreView B S P → ℕ → Type 0) → Type 0
+  OfEachSoundFrom valid carried r law = OfEachFittingRun valid carried r (λ plan line s. (budget : ℕ) (core : CoreView B S P) (g : ℕ)
+      → AreSoundFrom plan line s budget core g → law plan line s budget core g)
+
   -- the law holds of all such parts, for the run of each plan that fits
   abbrev pub OfEachCoreFrom : Validity S → (P → Type 0) → Reaction S P
       → (Plan B S P → (ℕ → ℕ) → Scene (States B S P) (Event P) → ℕ → CoreView B S P → ℕ → Type 0) → Type 0

@@ -1,7 +1,7 @@
 //! Laws of what timelines keep of the records of a run, over every plan that fits: `core` are the parts
 //! of the run, which keep all entries from the time `g` on, and `after` what steps leave of them.
 
-ghost use Rattle.std.specs.Prelude.{◌≡◌, ℕ, ◌≤◌, ◌++◌, Bool, true, List, [], length};
+ghost use Rattle.std.specs.Prelude.{◌≡◌, ℕ, ◌+◌, ◌≤◌, ◌++◌, Bool, true, List, [], length};
 ghost use Rattle.event_order.specs.declared.key.Key.{Key as KeyValue};
 ghost use Rattle.event_order.specs.Machine.{within};
 ghost use Rattle.ssf_model.specs.declared.event.Entry.{Entry as EntryValue};
@@ -18,14 +18,14 @@ ghost use Rattle.sync_rules.specs.Shared.{IsShared};
 ghost use Rattle.alignment.specs.declared.labels.Mode.{Mode as ModeValue};
 ghost use Rattle.alignment.specs.Alignment.{IsAlignment, line_of};
 ghost use Rattle.trace_writer.specs.Merging.{merged, CanMerge};
-ghost use Rattle.core_rules.specs.Cores.{CoreView};
+ghost use Rattle.core_rules.specs.Cores.{CoreView, IsSoundFor};
 ghost use Rattle.core_rules.specs.Stepping.{without_below};
 ghost use Rattle.core_rules.specs.Leading.{AreCoreSteps};
 ghost use Rattle.core_rules.specs.Beginning.{IsFirstCore};
 ghost use Rattle.core_rules.specs.Reading.{safe_bound_in, BudgetEndsIn};
 ghost use Rattle.core_traces.specs.Records.{AreEntriesBelow, AreAllEntries};
-ghost use Rattle.core_traces.specs.Kept.{run_on, histories_of, IsCoreFrom, OfEachCoreFrom, HaveGrown};
-ghost use Rattle.core_traces.specs.Ends.{AreWindows, EndsBudget};
+ghost use Rattle.core_traces.specs.Kept.{run_on, histories_of, IsCoreFrom, OfEachCoreFrom, AreSoundFrom, OfEachSoundFrom, HaveGrown};
+ghost use Rattle.core_traces.specs.Ends.{AreWindows, IsInBudget, EndsBudget};
 
 use ssf_model::Behaviour;
 
@@ -85,9 +85,55 @@ pub fn ended_runs_are_whole<B: Behaviour>()
         core.barrier.ended ≡ true → AreWindows s core.barrier.round core.barrier.window) }
 {}
 
-/// Where the budget ends at a timeline of the parts it ends there in the run, at the safe bound.
+/// No timeline has its event number `budget`, counted from 0, before the safe bound (`within`), and where the
+/// budget ends at a timeline of the parts it ends there in the run, at the safe bound (`ends`).
 pub fn budgets_end_in_the_run<B: Behaviour>()
-    ensures { (b : B) → OfEachCoreFrom {B = B} (B.valid b) (B.carried b) (B.reaction b) (λ plan line s budget core g.
+    ensures within { (b : B) → OfEachCoreFrom {B = B} (B.valid b) (B.carried b) (B.reaction b) (λ plan line s budget core g. IsInBudget s budget (safe_bound_in core)) }
+    ensures ends { (b : B) → OfEachCoreFrom {B = B} (B.valid b) (B.carried b) (B.reaction b) (λ plan line s budget core g.
+        (i : ℕ) → BudgetEndsIn core i → EndsBudget s budget i (safe_bound_in core)) }
+{}
+
+/// Sound parts that keep all from the time g on, whatever is told of the timelines that have reported, are
+/// among them those of the laws before (`from`). They do so still where they are later parts of the run, as
+/// sound, with histories that have grown and no lower safe bound (`grown`); after steps (`steps`), which
+/// lower no safe bound (`safe`); and, from a time up to the safe bound on, where the entries before it
+/// are given up (`given_up`).
+pub fn sound_parts_keep_histories<B: Behaviour>()
+    ensures from { (b : B) → OfEachCoreFrom {B = B} (B.valid b) (B.carried b) (B.reaction b) (λ plan line s budget core g. AreSoundFrom plan line s budget core g) }
+    ensures grown { (b : B) → OfEachSoundFrom {B = B} (B.valid b) (B.carried b) (B.reaction b) (λ plan line s budget core g.
+        (after : CoreView B B.State B.Payload) (at : ℕ → ℕ) (v : ℕ) → IsSoundFor plan line s after at v → after.budget ≡ core.budget → HaveGrown core after
+        → safe_bound_in core ≤ safe_bound_in after → AreSoundFrom plan line s budget after g) }
+    ensures steps { (b : B) → OfEachSoundFrom {B = B} (B.valid b) (B.carried b) (B.reaction b) (λ plan line s budget core g.
+        (after : CoreView B B.State B.Payload) → AreCoreSteps (B.valid b) (B.carried b) (B.reaction b) core after → HaveGrown core after → AreSoundFrom plan line s budget after g) }
+    ensures safe { (b : B) → OfEachSoundFrom {B = B} (B.valid b) (B.carried b) (B.reaction b) (λ plan line s budget core g.
+        (after : CoreView B B.State B.Payload) → AreCoreSteps (B.valid b) (B.carried b) (B.reaction b) core after → safe_bound_in core ≤ safe_bound_in after) }
+    ensures given_up { (b : B) → OfEachSoundFrom {B = B} (B.valid b) (B.carried b) (B.reaction b) (λ plan line s budget core g.
+        (below : ℕ) → g ≤ below → below ≤ safe_bound_in core → AreSoundFrom plan line s budget (without_below below core) below) }
+{}
+
+/// The histories of such parts tell the next records of the run (`each`, `can`, `next`). Where the
+/// barrier has ended their entries up to the end are the rest of the run's (`whole`), no timeline has more events
+/// than the budget (`few`), and the barrier's round and window tell the windows of the run (`windows`).
+/// No timeline has an event past the budget before the safe bound (`within`), and where the budget ends
+/// at a timeline of the parts it ends there in the run, at the safe bound (`ends`).
+pub fn sound_parts_tell_the_next_records<B: Behaviour>()
+    ensures each { (b : B) → OfEachSoundFrom {B = B} (B.valid b) (B.carried b) (B.reaction b) (λ plan line s budget core g. length (histories_of core) ≡ s.net.timelines) }
+    ensures can { (b : B) (plan : PlanValue B B.State B.Payload) (nets : List ℕ) (mode : ModeValue) (lines : List ℕ) (threshold until budget g : ℕ) (kept : KeyValue → Bool)
+        (core : CoreView B B.State B.Payload) (names : NamesValue)
+        → Fits (B.valid b) (B.carried b) plan → IsAlignment plan nets mode lines → until ≤ LatestTime → budget ≤ MostEvents
+        → AreSoundFrom plan (line_of lines) (run_on (B.reaction b) plan lines threshold until kept) budget core g
+        → length names.names ≡ length plan.entities → CanMerge names (histories_of core) }
+    ensures next { (b : B) → OfEachSoundFrom {B = B} (B.valid b) (B.carried b) (B.reaction b) (λ plan line s budget core g.
+        (f : ℕ) (entries : List EntryValue) → g ≤ f → f ≤ safe_bound_in core → AreEntriesBelow (B.reaction b) plan s.until s.kept g entries
+        → AreEntriesBelow (B.reaction b) plan s.until s.kept f (entries ++ merged (histories_of core) f)) }
+    ensures whole { (b : B) → OfEachSoundFrom {B = B} (B.valid b) (B.carried b) (B.reaction b) (λ plan line s budget core g.
+        core.barrier.ended ≡ true → (entries : List EntryValue) → AreEntriesBelow (B.reaction b) plan s.until s.kept g entries
+        → AreAllEntries (B.reaction b) plan s.until s.kept (entries ++ merged (histories_of core) (s.until + 1))) }
+    ensures few { (b : B) → OfEachSoundFrom {B = B} (B.valid b) (B.carried b) (B.reaction b) (λ plan line s budget core g. core.barrier.ended ≡ true → AreFew s budget) }
+    ensures windows { (b : B) → OfEachSoundFrom {B = B} (B.valid b) (B.carried b) (B.reaction b) (λ plan line s budget core g.
+        core.barrier.ended ≡ true → AreWindows s core.barrier.round core.barrier.window) }
+    ensures within { (b : B) → OfEachSoundFrom {B = B} (B.valid b) (B.carried b) (B.reaction b) (λ plan line s budget core g. IsInBudget s budget (safe_bound_in core)) }
+    ensures ends { (b : B) → OfEachSoundFrom {B = B} (B.valid b) (B.carried b) (B.reaction b) (λ plan line s budget core g.
         (i : ℕ) → BudgetEndsIn core i → EndsBudget s budget i (safe_bound_in core)) }
 {}
 
@@ -114,11 +160,13 @@ pub fn entries_below_are_the_first<B: Behaviour>()
 {}
 
 /// The run alone decides how many windows it has and the last of them (`windows`), and the time at
-/// which a budget ends (`budget`), which it does only where some timeline has more events (`few`).
+/// which a budget ends (`budget`), which it does only where some timeline has more events (`few`); else every time
+/// is in the budget (`within`).
 pub fn runs_decide_their_ends<X, E>()
     ensures windows { (s : Scene X E) → IsShared s → (count last many end : ℕ) → AreWindows s count last → AreWindows s many end → (count ≡ many) × (last ≡ end) }
     ensures budget { (s : Scene X E) (budget i j f h : ℕ) → EndsBudget s budget i f → EndsBudget s budget j h → f ≡ h }
     ensures few { (s : Scene X E) (budget i f : ℕ) → AreFew s budget → EndsBudget s budget i f → ⊥ }
+    ensures within { (s : Scene X E) (budget f : ℕ) → AreFew s budget → IsInBudget s budget f }
 {}
 
 /// Entities are numbered by timelines, and the two ends of each mapping without delay are on one.

@@ -1,4 +1,4 @@
-use Rattle.core_traces.proofs.Ends.{one_windows, one_budget, not_few}
+use Rattle.core_traces.proofs.Ends.{one_windows, one_budget, not_few, few_in_budget}
 use Rattle.core_traces.proofs.laws.runs_decide_their_ends.Goals as goal
 
 pub returns-clause-windows : goal.returns-clause-windows
@@ -9,3 +9,6 @@ returns-clause-budget g c = λ s budget i j f h p q. one_budget s budget i j f h
 
 pub returns-clause-few : goal.returns-clause-few
 returns-clause-few g c = λ s budget i f few p. not_few s budget i f few p
+
+pub returns-clause-within : goal.returns-clause-within
+returns-clause-within g c = λ s budget f few. few_in_budget s budget f few
