@@ -1,10 +1,10 @@
 -- One step of the list is one step of the run, and what holds along it.
-use Rattle.std.proofs.Common.{◌≡◌, ℕ, ◌+◌, ◌-◌, ◌^◌, ◌<◌, ◌≤◌, true, false, nat_eq, nat_le, List, filter, [], ◌∷◌, ◌++◌, length, refl, sym, ap, ◌∙◌, subst, inl, inr, arith, Option, Some, None, is_some, slice_get, slice_set, add-one, option_map, length-append}
+use Rattle.std.proofs.Common.{◌≡◌, ℕ, ◌+◌, ◌-◌, ◌^◌, ◌<◌, ◌≤◌, true, nat_eq, nat_le, List, filter, [], ◌∷◌, length, refl, sym, ap, ◌∙◌, subst, inl, inr, arith, Some, None, slice_get, slice_set, option_map}
 use Rattle.std.specs.List.{flat_map}
 use Rattle.std.proofs.lemmas.Grind.{common_steps}
 use Rattle.event_order.specs.Pending.{Among, put_all}
 use Rattle.event_order.proofs.Pending.{test_cases}
-use Rattle.event_order.specs.Machine.{World, option_list, due, stepped, executed, after, event, all_kept}
+use Rattle.event_order.specs.Machine.{World, due, stepped, executed, all_kept}
 use Rattle.ssf_model.specs.declared.event.Event.{Event}
 use Rattle.ssf_model.specs.declared.event.Entry.{Entry}
 use Rattle.ssf_model.specs.declared.event.Line.{Line}
@@ -26,8 +26,10 @@ use Rattle.run_health.proofs.Healths.{given, fine_sent, few_sent}
 use Rattle.run_health.proofs.Along.{healthy_along, all_aligned}
 use Rattle.event_order.proofs.Shares.{share_length}
 use Rattle.global_list.specs.Posting.{IsSendable, IsPosted}
-use Rattle.ssf_model.specs.Run.{entry_at, entries_from}
-use Rattle.global_list.specs.Executed.{states_of, world_of, Execution, MayExecute, MayGoOn, IsExecuted, IsOneMore}
+use Rattle.ssf_model.specs.Run.{entry_at}
+use Rattle.ssf_model.specs.Run.{world_after}
+use Rattle.global_list.specs.Executed.{states_of, world_of, MayExecute, IsExecuted}
+use Rattle.global_list.specs.Standing.{Standing, CanGoOn, advanced}
 
 le_true : (a b : ℕ) → nat_le a b ≡ true → a ≤ b
 le_true a b h = grind (arith, common_steps)
@@ -44,13 +46,6 @@ due_first until d e ds h = elim (test_cases (nat_le d.key.time until)) [
       record { same = s; in_time = subst (λ (x : Event _). x.key.time ≤ until) s (le_true d.key.time until t); test = subst (λ (x : Event _). nat_le x.key.time until ≡ true) s t }
   | inr f ↦ let g : None ≡ Some e = rw f at h in absurd (cc)
 ]
-
-told_more : (told0 told1 : List Entry) (t : Entry) (i : ℕ) → told1 ≡ told0 ++ t ∷ [] → length told0 ≡ i → length told1 ≡ i + 1
-told_more told0 told1 t i h e = rw h (omega (arith, length-append told0 (t ∷ []), e))
-
-pub none_of : {T : Type 0} (o : Option T) → is_some o ≡ false → o ≡ None
-none_of None h = refl
-none_of (Some x) h = absurd (cc)
 
 -- what holds of each element by its being in the list
 each_sent : {T : Type 0} (Q : T → Type 0) (xs : List T) → ((x : T) → Among x xs → Q x) → Each Q xs
@@ -123,20 +118,23 @@ module _ {B S P : Type 0} (r : Reaction S P) (ms : List Mapping) (until : ℕ) w
 
   module _ (valid : Validity S) (carried : P → Type 0) (law : KeepsValid valid carried r) (modest : IsModest valid carried r) where
     -- the event that is due can be executed
-    pub may_next : (es : List (Entity B S P)) (cs : List ℕ) (ps rest : List (Event P)) (e : Event P) → ps ≡ e ∷ rest → due key_of until ps ≡ Some e →
-        MayGoOn valid carried r ms until es cs ps → MayExecute valid r ms e es cs rest
-    may_next es cs ps rest e is d go =
+    pub may_next : (b : B) (es : List (Entity B S P)) (cs : List ℕ) (ps rest : List (Event P)) (e : Event P) → ps ≡ e ∷ rest → due key_of until ps ≡ Some e →
+        CanGoOn valid carried r until (record { behaviour = b; mappings = ms; channels = length cs; world = world_of es cs ps }) → MayExecute valid r ms e es cs rest
+    may_next b es cs ps rest e is d go =
         let here : due key_of until (e ∷ rest) ≡ Some e = subst (λ qs. due key_of until qs ≡ Some e) is d in
         let first = due_first until e e rest here in
+        let same : ms ≡ go.plan.mappings = ap (λ (s : Standing B S P). s.mappings) go.is in
+        let size : length cs ≡ length go.plan.counts = ap (λ (s : Standing B S P). s.channels) go.is in
+        let world : world_of es cs ps ≡ world_after r go.plan until all_kept go.n = ap (λ (s : Standing B S P). s.world) go.is in
         let spent : ℕ → ℕ = spent_by r go.plan until all_kept (λ k. 0) go.n in
-        let along = healthy_along r valid carried law modest go.plan until go.until go.fits all_kept (λ k. 0)
-        (all_aligned r valid carried law modest go.plan until go.until go.fits all_kept go.plan.mappings) go.n in
+        let along = healthy_along r valid carried law modest go.plan until go.in_time go.fits all_kept (λ k. 0)
+        (all_aligned r valid carried law modest go.plan until go.in_time go.fits all_kept go.plan.mappings) go.n in
         let healthy : IsHealthy valid carried go.plan spent (world_of es cs (e ∷ rest)) =
         subst (λ (qs : List (Event P)). IsHealthy valid carried go.plan spent (world_of es cs qs)) is
-        (subst (λ (w : World (States B S P) (Event P)). IsHealthy valid carried go.plan spent w) (sym go.world) along) in
+        (subst (λ (w : World (States B S P) (Event P)). IsHealthy valid carried go.plan spent w) (sym world) along) in
         let few : (k : ℕ) → spent k < MostEvents = λ k. omega (arith, go.few, share_length (machine_of {B = B} r go.plan.mappings) until all_kept (opening go.plan) (λ d. nat_eq 0 0) go.n) in
         let place = place_of es e.entity ((healthy.pending e (inl refl)).entity) in
-        rw go.same (may_execute r valid carried law modest go.plan go.fits spent few es cs e rest place.0 place.1 (omega (arith, first.in_time, go.until)) healthy go.size)
+        rw same (may_execute r valid carried law modest go.plan go.fits spent few es cs e rest place.0 place.1 (omega (arith, first.in_time, go.in_time)) healthy size)
 
   -- ---- the code's steps
 
@@ -162,43 +160,36 @@ module _ {B S P : Type 0} (r : Reaction S P) (ms : List Mapping) (until : ℕ) w
         entry = rw at (ap (λ (xs : List Line). let t : Entry = record { key = e.key; entity = e.entity; lines = xs } in t) ls_is);
       }
 
-  -- ---- the loop
+  -- ---- one step of the list
 
-  -- after i events from the world w on
-  pub record Running (w : World (States B S P) (Event P)) (i : ℕ) (es : List (Entity B S P)) (cs : List ℕ) (ps : List (Event P)) (told : List Entry) : Type 0 where
-    pub world : world_of es cs ps ≡ after (machine_of r ms) until all_kept w i
-    pub entries : told ≡ entries_from r ms until all_kept w i
-    pub count : length told ≡ i
+  stood : (b : B) (ms ms' : List Mapping) (n n' : ℕ) (w w' : World (States B S P) (Event P)) → ms ≡ ms' → n ≡ n' → w ≡ w' →
+      (let s : Standing B S P = record { behaviour = b; mappings = ms; channels = n; world = w } in s) ≡ (let s : Standing B S P = record { behaviour = b; mappings = ms'; channels = n'; world = w' } in s)
+  stood b ms ms' n n' w w' a c e = rw (a, c, e) refl
 
-  due_is : (v : World (States B S P) (Event P)) → due (machine_of {B = B} r ms).key until v.pending ≡ due key_of until v.pending
+  pub step_made : (b b' : B) (ms' : List Mapping) (es0 es1 : List (Entity B S P)) (c0 c1 : List ℕ) (p0 p1 rest : List (Event P)) (e : Event P) (told : Entry) → b' ≡ b → ms' ≡ ms → length c1 ≡ length c0 →
+      p0 ≡ e ∷ rest → due key_of until p0 ≡ Some e → IsExecuted r ms e (record { before = world_of es0 c0 rest; after = world_of es1 c1 p1; entry = told }) →
+      (let s : Standing B S P = record { behaviour = b'; mappings = ms'; channels = length c1; world = world_of es1 c1 p1 } in s)
+      ≡ advanced r until (record { behaviour = b; mappings = ms; channels = length c0; world = world_of es0 c0 p0 })
+  step_made b b' ms' es0 es1 c0 c1 p0 p1 rest e told own same size is d q =
+      rw own (stood b ms' ms (length c1) (length c0) (world_of es1 c1 p1) (stepped (machine_of r ms) until all_kept (states_of es0 c0) p0) same size (executed_step es0 es1 c0 c1 p0 p1 rest e told is d q))
+
+  pub entry_made : (es0 : List (Entity B S P)) (p0 : List (Event P)) (e : Event P) (told : Entry) → due key_of until p0 ≡ Some e → told ≡ entry_at r es0 e → Some told ≡ option_map (entry_at r es0) (due key_of until p0)
+  entry_made es0 p0 e told d is = rw d (ap (λ (t : Entry). Some t) is)
+
+  -- where nothing is due a step changes nothing
+  pub none_stepped : (x : States B S P) (ps : List (Event P)) → due key_of until ps ≡ None → (let w : World (States B S P) (Event P) = record { state = x; pending = ps } in w) ≡ stepped (machine_of r ms) until all_kept x ps
   unfolding machine_of
-  due_is v = refl
+  none_stepped x [] none = refl
+  none_stepped x (d ∷ ps) none = elim (test_cases (nat_le d.key.time until)) [
+    | inl t ↦ let g : Some d ≡ None = rw t at none in absurd (cc)
+    | inr f ↦ rw f refl
+  ]
 
-  pub event_is : (w : World (States B S P) (Event P)) (i : ℕ) (es : List (Entity B S P)) (cs : List ℕ) (ps : List (Event P)) →
-      world_of es cs ps ≡ after (machine_of r ms) until all_kept w i → event (machine_of r ms) until all_kept w i ≡ due key_of until ps
-  event_is w i es cs ps h = due_is (after (machine_of r ms) until all_kept w i) ∙ ap (λ (v : World (States B S P) (Event P)). due key_of until v.pending) (sym h)
+  pub none_made : (b b' : B) (ms' : List Mapping) (es0 : List (Entity B S P)) (c0 : List ℕ) (p0 p1 : List (Event P)) → b' ≡ b → ms' ≡ ms → p1 ≡ p0 → due key_of until p0 ≡ None →
+      (let s : Standing B S P = record { behaviour = b'; mappings = ms'; channels = length c0; world = world_of es0 c0 p1 } in s)
+      ≡ advanced r until (record { behaviour = b; mappings = ms; channels = length c0; world = world_of es0 c0 p0 })
+  none_made b b' ms' es0 c0 p0 p1 own same kept none =
+      rw (own, kept) (stood b ms' ms (length c0) (length c0) (world_of es0 c0 p0) (stepped (machine_of r ms) until all_kept (states_of es0 c0) p0) same refl (none_stepped (states_of es0 c0) p0 none))
 
-  pub running_opened : (plan : Plan B S P) (es : List (Entity B S P)) (cs : List ℕ) (ps : List (Event P)) (told : List Entry) →
-      es ≡ plan.entities → cs ≡ plan.counts → ps ≡ plan.events → told ≡ [] → Running (opening plan) 0 es cs ps told
-  running_opened plan es cs ps told a b c e = record { world = rw (a, b, c) refl; entries = e; count = rw e refl }
-
-  pub running_next : (w : World (States B S P) (Event P)) (i : ℕ) (es0 es1 : List (Entity B S P)) (c0 c1 : List ℕ) (p0 p1 : List (Event P)) (told0 told1 : List Entry) →
-      Running w i es0 c0 p0 told0 → IsOneMore r ms until (world_of es0 c0 p0) (world_of es1 c1 p1) told0 told1 → Running w (i + 1) es1 c1 p1 told1
-  running_next w i es0 es1 c0 c1 p0 p1 told0 told1 s q =
-      let v = after (machine_of r ms) until all_kept w i in
-      let here : world_of es0 c0 p0 ≡ v = s.world in
-      record {
-        world = rw add-one (q.world ∙ ap (λ (x : World (States B S P) (Event P)). stepped (machine_of r ms) until all_kept x.state x.pending) here);
-        entries = rw add-one (q.entries ∙ (ap (λ (ts : List Entry). ts ++ entry_at r es0 q.event ∷ []) s.entries
-            ∙ sym (ap (λ (o : Option Entry). entries_from r ms until all_kept w i ++ option_list o)
-            (ap (λ (o : Option (Event P)). option_map (entry_at r v.state.entities) o) (event_is w i es0 c0 p0 here ∙ q.is_due)
-            ∙ ap (λ (x : World (States B S P) (Event P)). Some (entry_at r x.state.entities q.event)) (sym here)))));
-        count = told_more told0 told1 (entry_at r es0 q.event) i q.entries s.count;
-      }
-
--- the list of a plan that fits can go on
-pub may_go : {B S P : Type 0} (r : Reaction S P) (valid : Validity S) (carried : P → Type 0) (plan : Plan B S P) (until i : ℕ) → Fits valid carried plan → until ≤ LatestTime → i < MostEvents →
-    (ms : List Mapping) (es : List (Entity B S P)) (cs : List ℕ) (ps : List (Event P)) (told : List Entry) → ms ≡ plan.mappings → length cs ≡ length plan.counts →
-    Running r plan.mappings until (opening plan) i es cs ps told → MayGoOn valid carried r ms until es cs ps
-may_go r valid carried plan until i fits in_time few ms es cs ps told same size s =
-    record { plan = plan; fits = fits; same = same; size = size; n = i; few = few; until = in_time; world = s.world }
+  pub no_entry : (es0 : List (Entity B S P)) (p0 : List (Event P)) → due key_of until p0 ≡ None → None ≡ option_map (entry_at r es0) (due key_of until p0)
+  no_entry es0 p0 none = rw none refl

@@ -3,3 +3,4 @@ pub mod Posts
 pub mod FanOuts
 pub mod Cuts
 pub mod Going
+pub mod Standings

@@ -1,9 +1,10 @@
 //! The state of the one list, and the execution of one event.
 
-ghost use Rattle.std.specs.Prelude.{◌≡◌, length, MatchBool, IfOk, OnErr};
+ghost use Rattle.std.specs.Prelude.{◌≡◌, length, IfOk, OnOk};
 ghost use Rattle.event_order.specs.Pending.{IsRising};
 ghost use Rattle.global_list.specs.Pending.{key_of};
-ghost use Rattle.global_list.specs.Executed.{world_in, MayExecute, IsExecuted, MayGoOn, IsOneMore, IsNoMore};
+ghost use Rattle.global_list.specs.Executed.{world_in, standing_of, MayExecute, IsExecuted};
+ghost use Rattle.global_list.specs.Standing.{CanGoOn, advanced, next_entry};
 
 use crate::agenda::Agenda;
 use crate::fan_out::FanOut;
@@ -54,29 +55,17 @@ impl<B: Behaviour> OneList<B> {
         })
     }
 
-    /// Executes the event of the least key, if its time is at most `until`, and adds its entry.
-    /// Answers whether there was one. Without memory no entry is added.
-    pub fn execute_next(
-        &mut self,
-        alloc: Global,
-        until: u64,
-        entries: &mut Vec<Entry>,
-    ) -> Result<bool, Memory>
-        requires { MayGoOn (B.valid self.old.behaviour) (B.carried self.old.behaviour) (B.reaction self.old.behaviour) self.old.fan_out until self.old.entities.items self.old.agenda.counts.items self.old.agenda.pending }
-        ensures next { IfOk result (λ more. MatchBool more
-            (IsOneMore (B.reaction self.old.behaviour) self.old.fan_out until (world_in self.old) (world_in self.new) entries.old.items entries.new.items)
-            (IsNoMore until (world_in self.old) (world_in self.new) entries.old.items entries.new.items)) }
-        ensures kept { OnErr result (entries.new.items ≡ entries.old.items) }
-        ensures behaviour { self.new.behaviour ≡ self.old.behaviour }
-        ensures mappings { self.new.fan_out ≡ self.old.fan_out }
-        ensures size { IfOk result (λ _. length self.new.agenda.counts.items ≡ length self.old.agenda.counts.items) }
+    /// Executes the event of the least key, if its time is at most `until`, and answers its entry.
+    pub fn execute_next(&mut self, alloc: Global, until: u64) -> Result<Option<Entry>, Memory>
+        requires { CanGoOn (B.valid self.old.behaviour) (B.carried self.old.behaviour) (B.reaction self.old.behaviour) until (standing_of self.old) }
+        ensures next { OnOk result (standing_of self.new ≡ advanced (B.reaction self.old.behaviour) until (standing_of self.old)) }
+        ensures entry { IfOk result (λ entry. entry ≡ next_entry (B.reaction self.old.behaviour) until (standing_of self.old)) }
     {
         let Some(event) = self.agenda.pending.take_due(until) else {
-            return Ok(false);
+            return Ok(None);
         };
         let entry = self.execute(alloc, &event)?;
-        entries.push(entry)?;
-        Ok(true)
+        Ok(Some(entry))
     }
 
     /// Executes an event, which is no more pending: its entity changes by the wake rule, and what

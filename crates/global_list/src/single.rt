@@ -1,12 +1,13 @@
 //! The run of a plan by one event list.
 
-ghost use Rattle.std.specs.Prelude.{◌≡◌, ◌≤◌, ◌⊎◌, ℕ, [], length, IsSome, None};
-ghost use Rattle.event_order.specs.Machine.{within, all_kept};
+ghost use Rattle.std.specs.Prelude.{◌≡◌, ◌≤◌, ◌⊎◌, ◌++◌, ℕ, [], length, is_some, IsSome, None, IfOk, OnOk, OnErr};
+ghost use Rattle.event_order.specs.Machine.{within, all_kept, option_list};
 ghost use Rattle.ssf_model.specs.Reaction.{LatestTime};
 ghost use Rattle.ssf_model.specs.Run.{Fits, run_event, run_entries};
 ghost use Rattle.run_health.specs.Healthy.{MostEvents};
+ghost use Rattle.global_list.specs.Standing.{CanGoOn, standing, advanced, next_event, next_entry};
 
-use crate::one_list::OneList;
+use crate::running::RunningList;
 use sim_base::{ListOf, Memory};
 use ssf_model::{Behaviour, Entry, Plan};
 use std::alloc::Global;
@@ -72,19 +73,42 @@ fn run<B: Behaviour>(
     ensures finished { result ≡ SingleEnd.Finished → run_event (B.reaction plan.behaviour) plan until all_kept (length entries.new.items) ≡ None }
     ensures over { result ≡ SingleEnd.OverBudget → (length entries.new.items ≡ budget) × IsSome (run_event (B.reaction plan.behaviour) plan until all_kept budget) }
 {
-    let Ok(mut list) = OneList::open(alloc, plan) else {
+    let Ok(mut list) = RunningList::open(alloc, plan) else {
         return SingleEnd::Memory;
     };
     for _executed in 0..budget {
-        match list.execute_next(alloc, until, entries) {
+        match add_next(alloc, until, &mut list, entries) {
             Ok(true) => {}
             Ok(false) => return SingleEnd::Finished,
             Err(Memory) => return SingleEnd::Memory,
         }
     }
-    if list.agenda.pending.has_due(until) {
+    if list.has_next(until) {
         SingleEnd::OverBudget
     } else {
         SingleEnd::Finished
+    }
+}
+
+/// Executes the next event, if there is one, and adds its entry. Answers whether there was one. Without
+/// memory no entry is added.
+fn add_next<B: Behaviour>(
+    alloc: Global,
+    until: u64,
+    list: &mut RunningList<B>,
+    entries: &mut Vec<Entry>,
+) -> Result<bool, Memory>
+    requires { CanGoOn (B.valid list.old.behaviour) (B.carried list.old.behaviour) (B.reaction list.old.behaviour) until (standing list.old) }
+    ensures next { OnOk result (standing list.new ≡ advanced (B.reaction list.old.behaviour) until (standing list.old)) }
+    ensures more { IfOk result (λ more. more ≡ is_some (next_event until (standing list.old))) }
+    ensures entries { OnOk result (entries.new.items ≡ entries.old.items ++ option_list (next_entry (B.reaction list.old.behaviour) until (standing list.old))) }
+    ensures kept { OnErr result (entries.new.items ≡ entries.old.items) }
+{
+    match list.execute_next(alloc, until)? {
+        Some(entry) => {
+            entries.push(entry)?;
+            Ok(true)
+        }
+        None => Ok(false),
     }
 }
