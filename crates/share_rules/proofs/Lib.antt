@@ -2,3 +2,9 @@ pub mod Lists
 pub mod Runs
 pub mod Opens
 pub mod Closes
+pub mod Holding
+pub mod Ends
+pub mod Moving
+pub mod Taking
+pub mod Barriers
+pub mod Gathering

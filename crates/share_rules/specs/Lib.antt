@@ -4,3 +4,4 @@ pub mod Home
 pub mod WordLaws
 pub mod HomeLaws
 pub mod Gathered
+pub mod Held

@@ -1,12 +1,14 @@
 //! Laws of what lies at home: `key` are all parts at the moment when they were shared out.
 
-ghost use Rattle.std.specs.Prelude.{◌≡◌, ◌⊎◌, ℕ, suc, ◌+◌, ◌<◌, ◌≤◌, true, length, Some, slice_get, slice_index};
+ghost use Rattle.std.specs.Prelude.{◌≡◌, ◌⊎◌, ℕ, suc, ◌+◌, ◌<◌, ◌≤◌, true, map, length, Some, slice_get, slice_index};
+ghost use Rattle.ssf_model.specs.Reaction.{LatestTime};
 ghost use Rattle.turn_table.specs.Changes.{put};
 ghost use Rattle.turn_table.specs.Shapes.{words_in, spoken, Speaks, is_cleared};
 ghost use Rattle.plan_shares.specs.declared.crosses.CrossEnd.{CrossEnd as CrossEndValue};
+ghost use Rattle.timeline_parts.specs.Tables.{AreRising};
 ghost use Rattle.timeline.specs.View.{TimelineOf};
 ghost use Rattle.sync_steps.specs.Between.{HasItsCrosses};
-ghost use Rattle.core_rules.specs.Cores.{CoreView, IsCoreOfRun, IsSoundFor};
+ghost use Rattle.core_rules.specs.Cores.{CoreView, channel_in, IsCoreOfRun, IsSoundFor};
 ghost use Rattle.core_rules.specs.Reading.{safe_bound_in};
 ghost use Rattle.share_rules.specs.Gathered.{IsOfSame};
 ghost use Rattle.share_rules.specs.Runs.{OfItsRuns};
@@ -79,4 +81,14 @@ pub fn parts_at_home_are_sound_together<B: Behaviour>()
         → safe_bound_in key ≤ safe_bound_in core }
     ensures round { (b : B) (key core : CoreView B B.State B.Payload) (f : ℕ → ℕ) → AreAtHome (B.valid b) (B.carried b) (B.reaction b) key f (shares_of core)
         → key.barrier.round ≤ core.barrier.round }
+{}
+
+/// Parts that are at home by some counts, with all else as the key has it, are in order where the key's
+/// are those of a run: the last time is in range (`in_time`), the channels between timelines rise
+/// (`rising`), and each timeline executes up to the same time as all (`until`).
+pub fn parts_at_home_are_in_order<B: Behaviour>()
+    ensures in_time { (b : B) (key core : CoreView B B.State B.Payload) → IsOfSame key core → IsCoreOfRun (B.valid b) (B.carried b) (B.reaction b) key → core.until ≤ LatestTime }
+    ensures rising { (b : B) (key core : CoreView B B.State B.Payload) → IsOfSame key core → IsCoreOfRun (B.valid b) (B.carried b) (B.reaction b) key → AreRising (map channel_in core.ends) }
+    ensures until { (b : B) (key core : CoreView B B.State B.Payload) (f : ℕ → ℕ) → IsOfSame key core → AreAtHome (B.valid b) (B.carried b) (B.reaction b) key f (shares_of core)
+        → IsCoreOfRun (B.valid b) (B.carried b) (B.reaction b) key → (i : ℕ) (t : TimelineOf B B.State B.Payload) → slice_get core.timelines i ≡ Some t → t.until ≡ core.until }
 {}
