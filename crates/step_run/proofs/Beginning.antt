@@ -4,7 +4,7 @@ use Rattle.std.specs.Prelude.{Bool}
 use Rattle.std.proofs.lemmas.List.{append-nil}
 use Rattle.event_order.specs.declared.key.Key.{Key}
 use Rattle.event_order.specs.Machine.{within}
-use Rattle.sim_base.specs.Outside.{Rose}
+use Rattle.sim_base.specs.Outside.{Rose, Appends}
 use Rattle.ssf_model.specs.declared.event.Event.{Event}
 use Rattle.ssf_model.specs.declared.event.Names.{Names}
 use Rattle.ssf_model.specs.declared.plan.Plan.{Plan}
@@ -17,6 +17,7 @@ use Rattle.alignment.specs.declared.labels.Mode.{Mode}
 use Rattle.alignment.specs.declared.timelines.AlignFault.{AlignFault}
 use Rattle.alignment.specs.declared.timelines.AlignFault.TheVariants as fault_of
 use Rattle.alignment.specs.Alignment.{IsAlignment, line_of, timeline_count}
+use Rattle.alignment.proofs.Lawful.{alignment_one}
 use Rattle.trace_writer.specs.Trace.{entries_text}
 use Rattle.trace_writer.specs.Report.{totals_of}
 use Rattle.trace_writer.proofs.Writing.{appends_none}
@@ -24,12 +25,12 @@ use Rattle.core_rules.specs.Cores.{CoreView}
 use Rattle.core_rules.specs.Beginning.{IsFirstCore}
 use Rattle.core_traces.specs.Records.{AreEntriesBelow}
 use Rattle.core_traces.specs.Kept.{run_on, IsCoreFrom}
-use Rattle.core_traces.specs.Ends.{AreWindows, EndsBudget}
+use Rattle.core_traces.specs.Ends.{AreWindows, IsInBudget, EndsBudget}
 use Rattle.step_run.specs.declared.running.StepEnd.{StepEnd}
 use Rattle.step_run.specs.declared.running.StepEnd.TheVariants.{Finished, OverBudget, MemoryBelow, Memory, TooManyTimelines, Write}
 use Rattle.step_run.specs.Telling.{Told}
-use Rattle.step_run.specs.Endings.{IfFinished, IfOverBudget, IfMemoryBelow, IfTooMany, IfWrite, IfNotBegun, IfBegun, IsTraced, IsWrittenBelow, IsPartWritten, OnTimelines}
-use Rattle.step_run.specs.Going.{Task, Output, IsGiven, KeepsFrom, IsUnderWay, GoesOn, HasEnded, IsCaused}
+use Rattle.step_run.specs.Endings.{IfTooMany, IfWrite, IfBegun, OnTimelines}
+use Rattle.step_run.specs.Going.{Task, Output, IsGiven, KeepsFrom, IsUnderWay, GoesOn, HasEnded, IsTold, IsCaused}
 
 module _ {B S P : Type 0} (valid : B → Validity S) (carried : B → P → Type 0) (reaction : B → Reaction S P) where
   abbrev pub FirstLaw : Type 0
@@ -64,90 +65,92 @@ module _ {B S P : Type 0} (valid : B → Validity S) (carried : B → P → Type
 -- ---- what the end of a task says of each answer
 
 module _ {B S P : Type 0} where
+  -- the task's timelines are those of the one alignment
+  pub on_lines : (r : Reaction S P) (until : ℕ) (task : Task B S P) → IsAlignment task.plan task.nets task.mode task.lines → (law : Scene (States B S P) (Event P) → Type 0)
+      → ((most : ℕ) → task.budget ≤ most → law (run_on r task.plan task.lines task.threshold until (within most))) → OnTimelines r task.plan task.nets task.mode task.threshold until task.budget law
+  on_lines r until task own law holds lines most aligned low =
+      subst (λ ls. law (run_on r task.plan ls task.threshold until (within most))) (alignment_one task.plan task.nets task.mode task.lines lines own aligned) (holds most low)
+
   module _ (r : Reaction S P) (names : Names) (until : ℕ) (task : Task B S P) (first now : Output) where
-    pub end_trace : (end : StepEnd) → HasEnded r names until task first now end
-        → IfFinished end (λ crossed last. IsTraced r task.plan names until task.budget first.held now.held first.tally now.tally)
-    end_trace (Finished crossed last) h = h.traced
-    end_trace (OverBudget timeline below) h = tt
-    end_trace (MemoryBelow below) h = tt
-    end_trace Memory h = tt
-    end_trace (TooManyTimelines count) h = tt
-    end_trace Write h = tt
+    pub end_told : IsAlignment task.plan task.nets task.mode task.lines → (end : StepEnd) → HasEnded r names until task first now end → IsTold r names until task first now end
+    end_told own (Finished crossed last) h = record {
+      trace = h.traced;
+      few = on_lines r until task own (λ s. AreFew s task.budget) h.few;
+      windows = on_lines r until task own (λ s. AreWindows s crossed last) h.windows;
+      over = tt;
+      budget_ends = tt;
+      stopped = tt;
+      memory_below = tt;
+      in_budget = tt;
+      part = tt;
+      nothing = tt;
+      few_timelines = tt;
+    }
+    end_told own (OverBudget timeline below) h = record {
+      over = h.written;
+      budget_ends = on_lines r until task own (λ s. EndsBudget s task.budget timeline below) h.ends;
+      stopped = h.stopped;
+      trace = tt;
+      few = tt;
+      windows = tt;
+      memory_below = tt;
+      in_budget = tt;
+      part = tt;
+      nothing = tt;
+      few_timelines = tt;
+    }
+    end_told own (MemoryBelow below) h = record {
+      memory_below = h.written;
+      in_budget = on_lines r until task own (λ s. IsInBudget s task.budget below) h.in_budget;
+      trace = tt;
+      few = tt;
+      windows = tt;
+      over = tt;
+      budget_ends = tt;
+      stopped = tt;
+      part = tt;
+      nothing = tt;
+      few_timelines = tt;
+    }
+    end_told own Memory h = absurd h
+    end_told own (TooManyTimelines count) h = absurd h
+    end_told own Write h = record {
+      part = h;
+      trace = tt;
+      few = tt;
+      windows = tt;
+      over = tt;
+      budget_ends = tt;
+      stopped = tt;
+      memory_below = tt;
+      in_budget = tt;
+      nothing = tt;
+      few_timelines = tt;
+    }
 
-    pub end_over : (end : StepEnd) → HasEnded r names until task first now end
-        → IfOverBudget end (λ timeline below. IsWrittenBelow r task.plan names until task.budget below first.held now.held)
-    end_over (Finished crossed last) h = tt
-    end_over (OverBudget timeline below) h = h.written
-    end_over (MemoryBelow below) h = tt
-    end_over Memory h = tt
-    end_over (TooManyTimelines count) h = tt
-    end_over Write h = tt
+    -- where there was no memory to begin
+    pub none_told : Appends [] first.held now.held → IsTold r names until task first now Memory
+    none_told none = record {
+      nothing = none;
+      trace = tt;
+      few = tt;
+      windows = tt;
+      over = tt;
+      budget_ends = tt;
+      stopped = tt;
+      memory_below = tt;
+      in_budget = tt;
+      part = tt;
+      few_timelines = tt;
+    }
 
-    pub end_memory : (end : StepEnd) → HasEnded r names until task first now end
-        → IfMemoryBelow end (λ below. IsWrittenBelow r task.plan names until task.budget below first.held now.held)
-    end_memory (Finished crossed last) h = tt
-    end_memory (OverBudget timeline below) h = tt
-    end_memory (MemoryBelow below) h = h
-    end_memory Memory h = tt
-    end_memory (TooManyTimelines count) h = tt
-    end_memory Write h = tt
-
-    pub end_part : (end : StepEnd) → HasEnded r names until task first now end → IfWrite end (IsPartWritten r task.plan names until task.budget first.held now.held)
-    end_part (Finished crossed last) h = tt
-    end_part (OverBudget timeline below) h = tt
-    end_part (MemoryBelow below) h = tt
-    end_part Memory h = tt
-    end_part (TooManyTimelines count) h = tt
-    end_part Write h = h
-
-    pub end_begun : (Q : Type 0) (end : StepEnd) → HasEnded r names until task first now end → IfNotBegun end Q
-    end_begun Q (Finished crossed last) h = tt
-    end_begun Q (OverBudget timeline below) h = tt
-    end_begun Q (MemoryBelow below) h = tt
-    end_begun Q Memory h = absurd h
-    end_begun Q (TooManyTimelines count) h = absurd h
-    end_begun Q Write h = tt
-
-    pub end_few_timelines : (Q : ℕ → Type 0) (end : StepEnd) → HasEnded r names until task first now end → IfTooMany end Q
-    end_few_timelines Q (Finished crossed last) h = tt
-    end_few_timelines Q (OverBudget timeline below) h = tt
-    end_few_timelines Q (MemoryBelow below) h = tt
-    end_few_timelines Q Memory h = tt
-    end_few_timelines Q (TooManyTimelines count) h = absurd h
-    end_few_timelines Q Write h = tt
-
-    module _ (one : (lines : List ℕ) → IsAlignment task.plan task.nets task.mode lines → task.lines ≡ lines) where
-      on_lines : (law : Scene (States B S P) (Event P) → Type 0) → ((most : ℕ) → task.budget ≤ most → law (run_on r task.plan task.lines task.threshold until (within most)))
-          → OnTimelines r task.plan task.nets task.mode task.threshold until task.budget law
-      on_lines law holds lines most aligned low =
-          subst (λ ls. law (run_on r task.plan ls task.threshold until (within most))) (one lines aligned) (holds most low)
-
-      pub end_few : (end : StepEnd) → HasEnded r names until task first now end
-          → IfFinished end (λ crossed last. OnTimelines r task.plan task.nets task.mode task.threshold until task.budget (λ s. AreFew s task.budget))
-      end_few (Finished crossed last) h = on_lines (λ s. AreFew s task.budget) h.few
-      end_few (OverBudget timeline below) h = tt
-      end_few (MemoryBelow below) h = tt
-      end_few Memory h = tt
-      end_few (TooManyTimelines count) h = tt
-      end_few Write h = tt
-
-      pub end_windows : (end : StepEnd) → HasEnded r names until task first now end
-          → IfFinished end (λ crossed last. OnTimelines r task.plan task.nets task.mode task.threshold until task.budget (λ s. AreWindows s crossed last))
-      end_windows (Finished crossed last) h = on_lines (λ s. AreWindows s crossed last) h.windows
-      end_windows (OverBudget timeline below) h = tt
-      end_windows (MemoryBelow below) h = tt
-      end_windows Memory h = tt
-      end_windows (TooManyTimelines count) h = tt
-      end_windows Write h = tt
-
-      pub end_budget : (end : StepEnd) → HasEnded r names until task first now end
-          → IfOverBudget end (λ timeline below. OnTimelines r task.plan task.nets task.mode task.threshold until task.budget (λ s. EndsBudget s task.budget timeline below))
-      end_budget (Finished crossed last) h = tt
-      end_budget (OverBudget timeline below) h = on_lines (λ s. EndsBudget s task.budget timeline below) h.ends
-      end_budget (MemoryBelow below) h = tt
-      end_budget Memory h = tt
-      end_budget (TooManyTimelines count) h = tt
-      end_budget Write h = tt
+pub none_too_many : (Q : ℕ → Type 0) (end : StepEnd) → IfTooMany end (λ count. ⊥) → IfTooMany end Q
+none_too_many Q (Finished crossed last) h = tt
+none_too_many Q (OverBudget timeline below) h = tt
+none_too_many Q (MemoryBelow below) h = tt
+none_too_many Q Memory h = tt
+none_too_many Q (TooManyTimelines count) h = absurd h
+none_too_many Q Write h = tt
 
 pub if_begun : (Q : Type 0) → Q → (end : StepEnd) → IfBegun end Q
 if_begun Q q (Finished crossed last) = q
@@ -173,11 +176,6 @@ caused_later a b faults Memory l h = tt
 caused_later a b faults (TooManyTimelines count) l h = tt
 caused_later a b faults Write l (inl up) = inl (omega arith)
 caused_later a b faults Write l (inr stands) = inr stands
-
--- an answer of a task that was begun, or want of memory
-pub or_memory : (end : StepEnd) (H : Type 0) (C : StepEnd → Type 0) → (end ≡ Memory) ⊎ H → C Memory → (H → C end) → C end
-or_memory end H C (inl none) m h = subst C (sym none) m
-or_memory end H C (inr ended) m h = h ended
 
 -- why a plan is not aligned, where this is not want of memory
 pub too_many_lines : {B S P : Type 0} (plan : Plan B S P) (nets : List ℕ) (mode : Mode) (fault : AlignFault) (count : ℕ) → fault ≡ fault_of.TooManyTimelines count

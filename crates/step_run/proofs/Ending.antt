@@ -9,15 +9,19 @@ use Rattle.ssf_model.specs.declared.event.Entry.{Entry}
 use Rattle.ssf_model.specs.declared.event.Names.{Names}
 use Rattle.ssf_model.specs.declared.plan.Plan.{Plan}
 use Rattle.ssf_model.specs.Reaction.{Reaction, Validity}
+use Rattle.ssf_model.specs.Truth.{AreFew}
 use Rattle.alignment.specs.Alignment.{timeline_count}
 use Rattle.trace_writer.specs.Trace.{entries_text, end_line, trace_text}
 use Rattle.trace_writer.proofs.Writing.{appends_then, prefix_then}
 use Rattle.core_traces.specs.Records.{AreAllEntries}
 use Rattle.core_traces.specs.Kept.{run_on}
+use Rattle.core_traces.specs.Ends.{AreWindows}
 use Rattle.step_run.specs.Telling.{MostCounted, Told}
-use Rattle.step_run.specs.Endings.{IsWrittenBelow, IsPartWritten}
-use Rattle.step_run.specs.Going.{Task, Output, IsGiven, IsWhole, IsFinished}
+use Rattle.step_run.specs.Endings.{IsPartWritten}
+use Rattle.step_run.specs.Going.{Task, Output, IsGiven, IsWhole, IsHalted, IsFinished}
+use Rattle.core_traces.proofs.Ends.{few_in_budget}
 use Rattle.step_run.proofs.Counting.{few_in_all, few_enough}
+use Rattle.step_run.proofs.Beginning.{on_lines}
 
 exact_end : (names : Names) (entries : List Entry) (until count : ℕ) → entries_text names entries ++ end_line until count ≡ trace_text names entries until count
 unfolding trace_text
@@ -64,17 +68,24 @@ module _ {B S P : Type 0} (valid : B → Validity S) (carried : B → P → Type
       windows = w.windows;
     }
 
-    pub ends_cut : (then : Output) → AppendsPrefix end_text now.held then.held → IsPartWritten (reaction task.plan.behaviour) task.plan names until task.budget first.held then.held
+    pub ends_cut : (then : Output) → AppendsPrefix end_text now.held then.held → IsPartWritten (reaction task.plan.behaviour) task.plan names task.nets task.mode task.threshold until task.budget first.held then.held
     ends_cut then text = inr (record {
+      few = on_lines (reaction task.plan.behaviour) until task given.aligned (λ s. AreFew s task.budget) w.few;
+      crossed = crossed;
+      last = last;
+      windows = on_lines (reaction task.plan.behaviour) until task given.aligned (λ s. AreWindows s crossed last) w.windows;
       entries = w.entries;
       all = w.all;
       text = subst (λ t. AppendsPrefix t first.held then.held) (ap (λ t. entries_text names w.entries ++ t) (append-nil end_text) ∙ whole_text)
           (prefix_then (entries_text names w.entries) end_text [] first.held now.held then.held w.text text);
     })
 
-    pub ends_short : (then : Output) → Appends [] now.held then.held → IsWrittenBelow (reaction task.plan.behaviour) task.plan names until task.budget told.below first.held then.held
+    pub ends_short : (then : Output) → Appends [] now.held then.held → IsHalted (reaction task.plan.behaviour) names until task told.below first then
     ends_short then text = record {
-      entries = w.entries;
-      are = w.before;
-      text = subst (λ t. Appends t first.held then.held) (append-nil (entries_text names w.entries)) (appends_then (entries_text names w.entries) [] first.held now.held then.held w.text text);
+      written = record {
+        entries = w.entries;
+        are = w.before;
+        text = subst (λ t. Appends t first.held then.held) (append-nil (entries_text names w.entries)) (appends_then (entries_text names w.entries) [] first.held now.held then.held w.text text);
+      };
+      in_budget = λ most low. few_in_budget (run_on (reaction task.plan.behaviour) task.plan task.lines task.threshold until (within most)) task.budget told.below (w.few most low);
     }

@@ -18,6 +18,7 @@ use Rattle.sync_facts.specs.Nets.{net_of}
 use Rattle.sync_rules.proofs.Windows.{window_most}
 use Rattle.alignment.specs.declared.labels.Mode.{Mode}
 use Rattle.alignment.specs.Alignment.{IsAlignment, line_of, timeline_count}
+use Rattle.alignment.proofs.Lawful.{alignment_one}
 use Rattle.trace_writer.specs.Trace.{entries_text, record_text}
 use Rattle.trace_writer.specs.Report.{Totals, totals_of}
 use Rattle.trace_writer.specs.Merging.{CanMerge, HasRoom, Room, merged}
@@ -32,7 +33,7 @@ use Rattle.core_rules.proofs.Lists.{map_length}
 use Rattle.timeline.specs.Moving.{without}
 use Rattle.core_traces.specs.Records.{AreEntriesBelow, AreAllEntries}
 use Rattle.core_traces.specs.Kept.{run_on, histories_of, IsCoreFrom, OfEachCoreFrom, HaveGrown}
-use Rattle.core_traces.specs.Ends.{AreWindows, EndsBudget}
+use Rattle.core_traces.specs.Ends.{AreWindows, IsInBudget, EndsBudget}
 use Rattle.sim_base.specs.declared.outside.Memory.{Memory as NoMemory}
 use Rattle.sync_core.specs.declared.driving.DriveEnd.{DriveEnd}
 use Rattle.sync_core.specs.declared.driving.DriveEnd.TheVariants as drive
@@ -40,7 +41,8 @@ use Rattle.sync_core.specs.declared.driving.Driven.{Driven}
 use Rattle.sync_core.specs.Driving.{IsOnward, EndsFirstAt}
 use Rattle.step_run.specs.Telling.{MostCounted, Told, IsTallied}
 use Rattle.step_run.specs.Endings.{AreRecordsBelow, AreAllRecords, IsWrittenBelow, IsPartWritten}
-use Rattle.step_run.specs.Going.{Task, Output, IsGiven, KeepsFrom, IsUnderWay, IsWhole, IsOver, HasAdvanced, HasCause, IfFurther, outcome_at, outcome}
+use Rattle.step_run.specs.Going.{Task, Output, IsGiven, KeepsFrom, IsUnderWay, IsWhole, IsOver, IsHalted, HasAdvanced, HasCause, IfFurther, outcome_at, outcome}
+use Rattle.step_run.proofs.Beginning.{on_lines}
 use Rattle.step_run.specs.declared.running.Advanced.{Advanced}
 use Rattle.step_run.specs.declared.running.Advanced.TheVariants.{Further, Whole, Ended}
 
@@ -71,44 +73,29 @@ count_goes_on count more xs ys p q = omega (arith, length-append xs ys)
 module _ {B S P : Type 0} (valid : B → Validity S) (carried : B → P → Type 0) (reaction : B → Reaction S P) where
   -- ---- the laws
 
-  abbrev pub KeepLaw : Type 0
-  KeepLaw = (b : B) → OfEachCoreFrom {B = B} (valid b) (carried b) (reaction b) (λ plan line s budget core g.
-      (after : CoreView B S P) → AreCoreSteps (valid b) (carried b) (reaction b) core after → HaveGrown core after → IsCoreFrom plan line s budget after g)
-
-  abbrev pub SafeLaw : Type 0
-  SafeLaw = (b : B) → OfEachCoreFrom {B = B} (valid b) (carried b) (reaction b) (λ plan line s budget core g.
-      (after : CoreView B S P) → AreCoreSteps (valid b) (carried b) (reaction b) core after → safe_bound_in core ≤ safe_bound_in after)
-
-  abbrev pub GiveLaw : Type 0
-  GiveLaw = (b : B) → OfEachCoreFrom {B = B} (valid b) (carried b) (reaction b) (λ plan line s budget core g.
-      (below : ℕ) → g ≤ below → below ≤ safe_bound_in core → IsCoreFrom plan line s budget (without_below below core) below)
-
-  abbrev pub CanLaw : Type 0
-  CanLaw = (b : B) (plan : Plan B S P) (nets : List ℕ) (mode : Mode) (lines : List ℕ) (threshold until budget g : ℕ) (kept : Key → Bool) (core : CoreView B S P) (names : Names)
-      → Fits (valid b) (carried b) plan → IsAlignment plan nets mode lines → until ≤ LatestTime → budget ≤ MostEvents
-      → IsCoreFrom plan (line_of lines) (run_on (reaction b) plan lines threshold until kept) budget core g
-      → length names.names ≡ length plan.entities → CanMerge names (histories_of core)
-
-  abbrev pub NextLaw : Type 0
-  NextLaw = (b : B) → OfEachCoreFrom {B = B} (valid b) (carried b) (reaction b) (λ plan line s budget core g.
-      (f : ℕ) (entries : List Entry) → g ≤ f → f ≤ safe_bound_in core → AreEntriesBelow (reaction b) plan s.until s.kept g entries
-      → AreEntriesBelow (reaction b) plan s.until s.kept f (entries ++ merged (histories_of core) f))
-
-  abbrev pub WholeLaw : Type 0
-  WholeLaw = (b : B) → OfEachCoreFrom {B = B} (valid b) (carried b) (reaction b) (λ plan line s budget core g.
-      core.barrier.ended ≡ true → (entries : List Entry) → AreEntriesBelow (reaction b) plan s.until s.kept (safe_bound_in core) entries
-      → AreAllEntries (reaction b) plan s.until s.kept entries)
-
-  abbrev pub FewLaw : Type 0
-  FewLaw = (b : B) → OfEachCoreFrom {B = B} (valid b) (carried b) (reaction b) (λ plan line s budget core g. core.barrier.ended ≡ true → AreFew s budget)
-
-  abbrev pub WindowsLaw : Type 0
-  WindowsLaw = (b : B) → OfEachCoreFrom {B = B} (valid b) (carried b) (reaction b) (λ plan line s budget core g.
-      core.barrier.ended ≡ true → AreWindows s core.barrier.round core.barrier.window)
-
-  abbrev pub BudgetLaw : Type 0
-  BudgetLaw = (b : B) → OfEachCoreFrom {B = B} (valid b) (carried b) (reaction b) (λ plan line s budget core g.
-      (i : ℕ) → BudgetEndsIn core i → EndsBudget s budget i (safe_bound_in core))
+  pub record AreLaws : Type 0 where
+    pub keep : (b : B) → OfEachCoreFrom {B = B} (valid b) (carried b) (reaction b) (λ plan line s budget core g.
+        (after : CoreView B S P) → AreCoreSteps (valid b) (carried b) (reaction b) core after → HaveGrown core after → IsCoreFrom plan line s budget after g)
+    pub safe : (b : B) → OfEachCoreFrom {B = B} (valid b) (carried b) (reaction b) (λ plan line s budget core g.
+        (after : CoreView B S P) → AreCoreSteps (valid b) (carried b) (reaction b) core after → safe_bound_in core ≤ safe_bound_in after)
+    pub give : (b : B) → OfEachCoreFrom {B = B} (valid b) (carried b) (reaction b) (λ plan line s budget core g.
+        (below : ℕ) → g ≤ below → below ≤ safe_bound_in core → IsCoreFrom plan line s budget (without_below below core) below)
+    pub can : (b : B) (plan : Plan B S P) (nets : List ℕ) (mode : Mode) (lines : List ℕ) (threshold until budget g : ℕ) (kept : Key → Bool) (core : CoreView B S P) (names : Names)
+        → Fits (valid b) (carried b) plan → IsAlignment plan nets mode lines → until ≤ LatestTime → budget ≤ MostEvents
+        → IsCoreFrom plan (line_of lines) (run_on (reaction b) plan lines threshold until kept) budget core g
+        → length names.names ≡ length plan.entities → CanMerge names (histories_of core)
+    pub next : (b : B) → OfEachCoreFrom {B = B} (valid b) (carried b) (reaction b) (λ plan line s budget core g.
+        (f : ℕ) (entries : List Entry) → g ≤ f → f ≤ safe_bound_in core → AreEntriesBelow (reaction b) plan s.until s.kept g entries
+        → AreEntriesBelow (reaction b) plan s.until s.kept f (entries ++ merged (histories_of core) f))
+    pub whole : (b : B) → OfEachCoreFrom {B = B} (valid b) (carried b) (reaction b) (λ plan line s budget core g.
+        core.barrier.ended ≡ true → (entries : List Entry) → AreEntriesBelow (reaction b) plan s.until s.kept (safe_bound_in core) entries
+        → AreAllEntries (reaction b) plan s.until s.kept entries)
+    pub few : (b : B) → OfEachCoreFrom {B = B} (valid b) (carried b) (reaction b) (λ plan line s budget core g. core.barrier.ended ≡ true → AreFew s budget)
+    pub windows : (b : B) → OfEachCoreFrom {B = B} (valid b) (carried b) (reaction b) (λ plan line s budget core g.
+        core.barrier.ended ≡ true → AreWindows s core.barrier.round core.barrier.window)
+    pub budget_ends : (b : B) → OfEachCoreFrom {B = B} (valid b) (carried b) (reaction b) (λ plan line s budget core g.
+        (i : ℕ) → BudgetEndsIn core i → EndsBudget s budget i (safe_bound_in core))
+    pub within : (b : B) → OfEachCoreFrom {B = B} (valid b) (carried b) (reaction b) (λ plan line s budget core g. IsInBudget s budget (safe_bound_in core))
 
   -- ---- steps
 
@@ -124,7 +111,7 @@ module _ {B S P : Type 0} (valid : B → Validity S) (carried : B → P → Type
       let has = on.grown.each i t _ is found in
       (_, found, has.more, has.history, has.executed)
 
-  module _ (names : Names) (until : ℕ) (task : Task B S P) (given : IsGiven (valid task.plan.behaviour) (carried task.plan.behaviour) names until task) where
+  module _ (laws : AreLaws) (names : Names) (until : ℕ) (task : Task B S P) (given : IsGiven (valid task.plan.behaviour) (carried task.plan.behaviour) names until task) where
     abbrev own : B
     own = task.plan.behaviour
 
@@ -138,55 +125,57 @@ module _ {B S P : Type 0} (valid : B → Validity S) (carried : B → P → Type
         subst (λ d. AreCoreSteps (valid d) (carried d) (reaction d) core after) here.sound.kept.behaviour steps
 
     module _ (core mid : CoreView B S P) (from : ℕ) (keeps : KeepsFrom (reaction own) until task core from) (driven : AreDriven core mid) where
-      pub keeps_on : KeepLaw → KeepsFrom (reaction own) until task mid from
-      keeps_on law most low =
-          law own task.plan until (within most) (line_of task.lines) (net most) given.fits given.in_time task.budget core from (keeps most low)
+      pub keeps_on : KeepsFrom (reaction own) until task mid from
+      keeps_on most low =
+          laws.keep own task.plan until (within most) (line_of task.lines) (net most) given.fits given.in_time task.budget core from (keeps most low)
           mid (at_own core mid from keeps driven.steps) (grown core mid driven.onward)
 
-      pub bound_on : SafeLaw → from ≤ safe_bound_in mid
-      bound_on law =
+      pub bound_on : from ≤ safe_bound_in mid
+      bound_on =
           let here = keeps task.budget (omega arith) in
-          let rises = law own task.plan until (within task.budget) (line_of task.lines) (net task.budget) given.fits given.in_time task.budget core from here mid (at_own core mid from keeps driven.steps) in
+          let rises = laws.safe own task.plan until (within task.budget) (line_of task.lines) (net task.budget) given.fits given.in_time task.budget core from here mid (at_own core mid from keeps driven.steps) in
           let safe = here.safe in
           omega arith
 
-      pub keeps_less : KeepLaw → SafeLaw → GiveLaw → KeepsFrom (reaction own) until task (without_below (safe_bound_in mid) mid) (safe_bound_in mid)
-      keeps_less keep safe give most low =
-          give own task.plan until (within most) (line_of task.lines) (net most) given.fits given.in_time task.budget mid from (keeps_on keep most low)
-          (safe_bound_in mid) (bound_on safe) (omega arith)
+      pub keeps_less : KeepsFrom (reaction own) until task (without_below (safe_bound_in mid) mid) (safe_bound_in mid)
+      keeps_less most low =
+          laws.give own task.plan until (within most) (line_of task.lines) (net most) given.fits given.in_time task.budget mid from (keeps_on most low)
+          (safe_bound_in mid) bound_on (omega arith)
 
-      pub next_records : KeepLaw → SafeLaw → NextLaw → (entries : List Entry) → AreRecordsBelow (reaction own) task.plan until task.budget from entries
+      pub next_records : (entries : List Entry) → AreRecordsBelow (reaction own) task.plan until task.budget from entries
           → AreRecordsBelow (reaction own) task.plan until task.budget (safe_bound_in mid) (entries ++ merged (histories_of mid) (safe_bound_in mid))
-      next_records keep safe next entries before most low =
-          next own task.plan until (within most) (line_of task.lines) (net most) given.fits given.in_time task.budget mid from (keeps_on keep most low)
-          (safe_bound_in mid) entries (bound_on safe) (omega arith) (before most low)
+      next_records entries before most low =
+          laws.next own task.plan until (within most) (line_of task.lines) (net most) given.fits given.in_time task.budget mid from (keeps_on most low)
+          (safe_bound_in mid) entries bound_on (omega arith) (before most low)
 
-      pub whole_records : KeepLaw → WholeLaw → mid.barrier.ended ≡ true → (entries : List Entry) → AreRecordsBelow (reaction own) task.plan until task.budget (safe_bound_in mid) entries
+      pub whole_records : mid.barrier.ended ≡ true → (entries : List Entry) → AreRecordsBelow (reaction own) task.plan until task.budget (safe_bound_in mid) entries
           → AreAllRecords (reaction own) task.plan until task.budget entries
-      whole_records keep whole ended entries before most low =
-          whole own task.plan until (within most) (line_of task.lines) (net most) given.fits given.in_time task.budget mid from (keeps_on keep most low) ended entries (before most low)
+      whole_records ended entries before most low =
+          laws.whole own task.plan until (within most) (line_of task.lines) (net most) given.fits given.in_time task.budget mid from (keeps_on most low) ended entries (before most low)
 
-      pub few_on : KeepLaw → FewLaw → mid.barrier.ended ≡ true → (most : ℕ) → task.budget ≤ most → AreFew (run_on (reaction own) task.plan task.lines task.threshold until (within most)) task.budget
-      few_on keep few ended most low =
-          few own task.plan until (within most) (line_of task.lines) (net most) given.fits given.in_time task.budget mid from (keeps_on keep most low) ended
+      pub few_on : mid.barrier.ended ≡ true → (most : ℕ) → task.budget ≤ most → AreFew (run_on (reaction own) task.plan task.lines task.threshold until (within most)) task.budget
+      few_on ended most low =
+          laws.few own task.plan until (within most) (line_of task.lines) (net most) given.fits given.in_time task.budget mid from (keeps_on most low) ended
 
-      pub windows_on : KeepLaw → WindowsLaw → mid.barrier.ended ≡ true → (most : ℕ) → task.budget ≤ most
+      pub windows_on : mid.barrier.ended ≡ true → (most : ℕ) → task.budget ≤ most
           → AreWindows (run_on (reaction own) task.plan task.lines task.threshold until (within most)) mid.barrier.round mid.barrier.window
-      windows_on keep windows ended most low =
-          windows own task.plan until (within most) (line_of task.lines) (net most) given.fits given.in_time task.budget mid from (keeps_on keep most low) ended
+      windows_on ended most low =
+          laws.windows own task.plan until (within most) (line_of task.lines) (net most) given.fits given.in_time task.budget mid from (keeps_on most low) ended
 
-      pub budget_on : KeepLaw → BudgetLaw → (i : ℕ) → BudgetEndsIn mid i → (most : ℕ) → task.budget ≤ most
+      pub budget_on : (i : ℕ) → BudgetEndsIn mid i → (most : ℕ) → task.budget ≤ most
           → EndsBudget (run_on (reaction own) task.plan task.lines task.threshold until (within most)) task.budget i (safe_bound_in mid)
-      budget_on keep budget i ends most low =
-          budget own task.plan until (within most) (line_of task.lines) (net most) given.fits given.in_time task.budget mid from (keeps_on keep most low) i ends
+      budget_on i ends most low =
+          laws.budget_ends own task.plan until (within most) (line_of task.lines) (net most) given.fits given.in_time task.budget mid from (keeps_on most low) i ends
 
-      pub can_merge : KeepLaw → CanLaw → CanMerge names (histories_of mid)
-      can_merge keep can =
-          can own task.plan task.nets task.mode task.lines task.threshold until task.budget from (within task.budget) mid names given.fits given.aligned given.in_time given.most
-          (keeps_on keep task.budget (omega arith)) given.named
+      pub within_on : (most : ℕ) → task.budget ≤ most
+          → IsInBudget (run_on (reaction own) task.plan task.lines task.threshold until (within most)) task.budget (safe_bound_in mid)
+      within_on most low =
+          laws.within own task.plan until (within most) (line_of task.lines) (net most) given.fits given.in_time task.budget mid from (keeps_on most low)
 
-      pub lines_on : KeepLaw → length mid.timelines ≡ timeline_count task.lines
-      lines_on keep = (keeps_on keep task.budget (omega arith)).sound.timelines
+      pub can_merge : CanMerge names (histories_of mid)
+      can_merge =
+          laws.can own task.plan task.nets task.mode task.lines task.threshold until task.budget from (within task.budget) mid names given.fits given.aligned given.in_time given.most
+          (keeps_on task.budget (omega arith)) given.named
 
     -- ---- where it goes on: the number of timelines, the barrier's round, and that the parts are those of a run
 
@@ -233,41 +222,40 @@ module _ {B S P : Type 0} (valid : B → Validity S) (carried : B → P → Type
 
     -- ---- a piece
 
-    module _ (core mid : CoreView B S P) (told : Told) (first now : Output) (under : IsUnderWay (reaction own) names until task core told first now) (driven : AreDriven core mid)
-        (keep : KeepLaw) (safe : SafeLaw) (next : NextLaw) where
+    module _ (core mid : CoreView B S P) (told : Told) (first now : Output) (under : IsUnderWay (reaction own) names until task core told first now) (driven : AreDriven core mid) where
       abbrev piece : List Entry
       piece = merged (histories_of mid) (safe_bound_in mid)
 
       below_now : AreRecordsBelow (reaction own) task.plan until task.budget (safe_bound_in mid) (under.entries ++ piece)
-      below_now = next_records core mid told.below under.keeps driven keep safe next under.entries under.before
+      below_now = next_records core mid told.below under.keeps driven under.entries under.before
 
       below_then : (more : Told) → more.below ≡ safe_bound_in mid → AreRecordsBelow (reaction own) task.plan until task.budget more.below (under.entries ++ piece)
       below_then more at = subst (λ f. AreRecordsBelow (reaction own) task.plan until task.budget f (under.entries ++ piece)) (sym at) below_now
 
-      pub goes_further : GiveLaw → (more : Told) (then : Output) → more.below ≡ safe_bound_in mid → more.count ≡ min (told.count + length piece) MostCounted → Appends (entries_text names piece) now.held then.held → IsTallied now.tally then.tally piece
+      pub goes_further : (more : Told) (then : Output) → more.below ≡ safe_bound_in mid → more.count ≡ min (told.count + length piece) MostCounted → Appends (entries_text names piece) now.held then.held → IsTallied now.tally then.tally piece
           → IsUnderWay (reaction own) names until task (without_below (safe_bound_in mid) mid) more first then
-      goes_further give more then at counted text tallied = record {
+      goes_further more then at counted text tallied = record {
         entries = under.entries ++ piece;
-        keeps = subst (λ f. KeepsFrom (reaction own) until task (without_below (safe_bound_in mid) mid) f) (sym at) (keeps_less core mid told.below under.keeps driven keep safe give);
+        keeps = subst (λ f. KeepsFrom (reaction own) until task (without_below (safe_bound_in mid) mid) f) (sym at) (keeps_less core mid told.below under.keeps driven);
         before = below_then more at;
         counted = count_goes_on told.count more.count under.entries piece under.counted counted;
         text = text_goes_on names under.entries piece first.held now.held then.held under.text text;
         tallied = tally_goes_on first.tally now.tally then.tally under.entries piece under.tallied tallied;
       }
 
-      pub is_whole : WholeLaw → FewLaw → WindowsLaw → mid.barrier.ended ≡ true → (more : Told) (then : Output) → more.below ≡ safe_bound_in mid → more.count ≡ min (told.count + length piece) MostCounted
+      pub is_whole : mid.barrier.ended ≡ true → (more : Told) (then : Output) → more.below ≡ safe_bound_in mid → more.count ≡ min (told.count + length piece) MostCounted
           → Appends (entries_text names piece) now.held then.held → IsTallied now.tally then.tally piece
           → IsWhole (reaction own) names until task more mid.barrier.round mid.barrier.window first then
-      is_whole whole few windows ended more then at counted text tallied = record {
+      is_whole ended more then at counted text tallied = record {
         entries = under.entries ++ piece;
         before = below_then more at;
-        all = whole_records core mid told.below under.keeps driven keep whole ended (under.entries ++ piece) below_now;
+        all = whole_records core mid told.below under.keeps driven ended (under.entries ++ piece) below_now;
         counted = count_goes_on told.count more.count under.entries piece under.counted counted;
         text = text_goes_on names under.entries piece first.held now.held then.held under.text text;
         tallied = tally_goes_on first.tally now.tally then.tally under.entries piece under.tallied tallied;
-        shared = λ most low. (keeps_on core mid told.below under.keeps driven keep most low).run.shared;
-        few = few_on core mid told.below under.keeps driven keep few ended;
-        windows = windows_on core mid told.below under.keeps driven keep windows ended;
+        shared = λ most low. (keeps_on core mid told.below under.keeps driven most low).run.shared;
+        few = few_on core mid told.below under.keeps driven ended;
+        windows = windows_on core mid told.below under.keeps driven ended;
       }
 
       pub is_below : (then : Output) → Appends (entries_text names piece) now.held then.held
@@ -278,28 +266,49 @@ module _ {B S P : Type 0} (valid : B → Validity S) (carried : B → P → Type
         text = text_goes_on names under.entries piece first.held now.held then.held under.text text;
       }
 
-      pub is_over : BudgetLaw → (i : ℕ) → BudgetEndsIn mid i → (then : Output) → Appends (entries_text names piece) now.held then.held
+      pub is_over : (i : ℕ) → EndsFirstAt mid i → (then : Output) → Appends (entries_text names piece) now.held then.held
           → IsOver (reaction own) names until task i (safe_bound_in mid) first then
-      is_over budget i ends then text = record {
+      is_over i ends then text = record {
         written = is_below then text;
-        ends = budget_on core mid told.below under.keeps driven keep budget i ends;
+        ends = budget_on core mid told.below under.keeps driven i ends.here;
+        stopped = record {
+          core = mid;
+          first = ends;
+          from = told.below;
+          run = λ lines most aligned low. subst (λ ls. IsCoreFrom task.plan (line_of ls) (run_on (reaction own) task.plan ls task.threshold until (within most)) task.budget mid told.below)
+              (alignment_one task.plan task.nets task.mode task.lines lines given.aligned aligned) (keeps_on core mid told.below under.keeps driven most low);
+        };
+      }
+
+      pub is_halted : (then : Output) → Appends (entries_text names piece) now.held then.held → IsHalted (reaction own) names until task (safe_bound_in mid) first then
+      is_halted then text = record {
+        written = is_below then text;
+        in_budget = within_on core mid told.below under.keeps driven;
       }
 
       pub is_cut : (then : Output) → AppendsPrefix (entries_text names piece) now.held then.held
-          → IsPartWritten (reaction own) task.plan names until task.budget first.held then.held
+          → IsPartWritten (reaction own) task.plan names task.nets task.mode task.threshold until task.budget first.held then.held
       is_cut then text = inl (record {
         below = safe_bound_in mid;
+        in_budget = on_lines (reaction own) until task given.aligned (λ s. IsInBudget s task.budget (safe_bound_in mid)) (within_on core mid told.below under.keeps driven);
         entries = under.entries ++ piece;
         are = below_now;
         text = text_is_cut names under.entries piece first.held now.held then.held under.text text;
       })
 
       -- nothing of the piece was written
-      pub is_as_before : (then : Output) → Appends [] now.held then.held → IsWrittenBelow (reaction own) task.plan names until task.budget told.below first.held then.held
+      pub is_as_before : (then : Output) → Appends [] now.held then.held → IsHalted (reaction own) names until task told.below first then
       is_as_before then text = record {
-        entries = under.entries;
-        are = under.before;
-        text = subst (λ t. Appends t first.held then.held) (none_behind (entries_text names under.entries)) (appends_then _ _ first.held now.held then.held under.text text);
+        written = record {
+          entries = under.entries;
+          are = under.before;
+          text = subst (λ t. Appends t first.held then.held) (none_behind (entries_text names under.entries)) (appends_then _ _ first.held now.held then.held under.text text);
+        };
+        in_budget = λ most low j k e past.
+            let here = under.keeps most low in
+            let top = here.safe in
+            let late = laws.within own task.plan until (within most) (line_of task.lines) (net most) given.fits given.in_time task.budget core told.below here j k e past in
+            omega (arith, top, late);
       }
 
       -- ---- what comes of the steps
@@ -311,25 +320,25 @@ module _ {B S P : Type 0} (valid : B → Validity S) (carried : B → P → Type
         pub text : Appends (entries_text names piece) now.held then.held
         pub tallied : IsTallied now.tally then.tally piece
 
-      pub has_advanced : GiveLaw → WholeLaw → FewLaw → WindowsLaw → BudgetLaw → (after : CoreView B S P) (more : Told) (then : Output) → IsPiece after more then
+      pub has_advanced : (after : CoreView B S P) (more : Told) (then : Output) → IsPiece after more then
           → (end : Result Driven NoMemory) → IfOk end (λ d. (d.end ≡ drive.Finished) ↔ (mid.barrier.ended ≡ true))
           → IfOk end (λ d. (i : ℕ) → (d.end ≡ drive.OverBudget i) ↔ ((mid.barrier.ended ≡ false) × EndsFirstAt mid i))
           → HasAdvanced (reaction own) names until task after more first then (outcome end more.below)
-      has_advanced give whole few windows budget after more then p (Err memory) finished over =
-          subst (λ f. IsWrittenBelow (reaction own) task.plan names until task.budget f first.held then.held) (sym p.at) (is_below then p.text)
-      has_advanced give whole few windows budget after more then p (Ok d) finished over = by_end d.end d.used finished over
+      has_advanced after more then p (Err memory) finished over =
+          subst (λ f. IsHalted (reaction own) names until task f first then) (sym p.at) (is_halted then p.text)
+      has_advanced after more then p (Ok d) finished over = by_end d.end d.used finished over
         where
           by_end : (e : DriveEnd) (used : ℕ) → ((e ≡ drive.Finished) ↔ (mid.barrier.ended ≡ true)) → ((i : ℕ) → (e ≡ drive.OverBudget i) ↔ ((mid.barrier.ended ≡ false) × EndsFirstAt mid i))
               → HasAdvanced (reaction own) names until task after more first then (outcome_at e used more.below)
           by_end drive.Finished used fin ov =
               subst (λ (c : CoreView B S P). IsWhole (reaction own) names until task more c.barrier.round c.barrier.window first then) (sym p.given_up)
-              (is_whole whole few windows (fin.0 refl) more then p.at p.counted p.text p.tallied)
+              (is_whole (fin.0 refl) more then p.at p.counted p.text p.tallied)
           by_end (drive.OverBudget i) used fin ov =
               subst (λ f. IsOver (reaction own) names until task i f first then) (sym p.at)
-              (is_over budget i ((ov i).0 refl).1.here then p.text)
+              (is_over i ((ov i).0 refl).1 then p.text)
           by_end drive.Crossed used fin ov =
               subst (λ (c : CoreView B S P). IsUnderWay (reaction own) names until task c more first then) (sym p.given_up)
-              (goes_further give more then p.at p.counted p.text p.tallied)
+              (goes_further more then p.at p.counted p.text p.tallied)
 
 pub if_further : (end : Result Driven NoMemory) (below : ℕ) (P : ℕ → Type 0) → IfOk end (λ d. d.end ≡ drive.Crossed → P d.used) → IfFurther (outcome end below) P
 if_further (Err memory) below P h = tt

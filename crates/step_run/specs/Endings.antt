@@ -10,12 +10,16 @@ use Rattle.ssf_model.specs.declared.plan.Plan.{Plan}
 use Rattle.ssf_model.specs.Reaction.{Reaction}
 use Rattle.ssf_model.specs.Run.{States}
 use Rattle.ssf_model.specs.Scene.{Scene}
+use Rattle.ssf_model.specs.Truth.{AreFew}
 use Rattle.alignment.specs.declared.labels.Mode.{Mode}
-use Rattle.alignment.specs.Alignment.{IsAlignment}
+use Rattle.alignment.specs.Alignment.{IsAlignment, line_of}
 use Rattle.trace_writer.specs.Trace.{entries_text, trace_text}
 use Rattle.trace_writer.specs.Report.{Totals}
 use Rattle.core_traces.specs.Records.{AreEntriesBelow, AreAllEntries}
-use Rattle.core_traces.specs.Kept.{run_on}
+use Rattle.core_rules.specs.Cores.{CoreView}
+use Rattle.sync_core.specs.Driving.{EndsFirstAt}
+use Rattle.core_traces.specs.Kept.{run_on, IsCoreFrom}
+use Rattle.core_traces.specs.Ends.{AreWindows, IsInBudget}
 use Rattle.step_run.specs.declared.running.StepEnd.{StepEnd}
 use Rattle.step_run.specs.declared.running.StepEnd.TheVariants.{Finished, OverBudget, MemoryBelow, Memory, TooManyTimelines, Write}
 use Rattle.step_run.specs.Telling.{IsTallied}
@@ -90,6 +94,21 @@ module _ {B S P : Type 0} where
   abbrev pub AreAllRecords : Reaction S P → Plan B S P → ℕ → ℕ → List Entry → Type 0
   AreAllRecords r plan until budget entries = (most : ℕ) → budget ≤ most → AreAllEntries r plan until (within most) entries
 
+  -- ---- the run on timelines
+
+  -- what holds of the run on the timelines of each alignment by the mode (there is one), under each such cut
+  abbrev pub OnTimelines : Reaction S P → Plan B S P → List ℕ → Mode → ℕ → ℕ → ℕ → (Scene (States B S P) (Event P) → Type 0) → Type 0
+  OnTimelines r plan nets mode threshold until budget law =
+      (lines : List ℕ) (most : ℕ) → IsAlignment plan nets mode lines → budget ≤ most → law (run_on r plan lines threshold until (within most))
+
+  -- it stopped with parts that are sound for this run, at which i is the least timeline where the budget ends. They keep all
+  -- entries from the time `from` on
+  pub record HasStoppedAt (r : Reaction S P) (plan : Plan B S P) (nets : List ℕ) (mode : Mode) (threshold until budget i : ℕ) : Type 0 where
+    pub core : CoreView B S P
+    pub first : EndsFirstAt core i
+    pub from : ℕ
+    pub run : (lines : List ℕ) (most : ℕ) → IsAlignment plan nets mode lines → budget ≤ most → IsCoreFrom plan (line_of lines) (run_on r plan lines threshold until (within most)) budget core from
+
   -- ---- what was written
 
   -- the whole trace was written, and the tally counts its entries
@@ -105,25 +124,24 @@ module _ {B S P : Type 0} where
     pub are : AreRecordsBelow r plan until budget below entries
     pub text : Appends (entries_text names entries) held held'
 
-  -- a part was written, from the beginning: of the records below some time, or of the whole trace
-  pub record IsPieceOfRecords (r : Reaction S P) (plan : Plan B S P) (names : Names) (until budget : ℕ) (held held' : Option (List ℕ)) : Type 0 where
+  -- a part was written, from the beginning: of the records below some time, before which no timeline has more events than the
+  -- budget, or of the whole trace, where none has more
+  pub record IsPieceOfRecords (r : Reaction S P) (plan : Plan B S P) (names : Names) (nets : List ℕ) (mode : Mode) (threshold until budget : ℕ) (held held' : Option (List ℕ)) : Type 0 where
     pub below : ℕ
+    pub in_budget : OnTimelines r plan nets mode threshold until budget (λ s. IsInBudget s budget below)
     pub entries : List Entry
     pub are : AreRecordsBelow r plan until budget below entries
     pub text : AppendsPrefix (entries_text names entries) held held'
 
-  pub record IsPieceOfTrace (r : Reaction S P) (plan : Plan B S P) (names : Names) (until budget : ℕ) (held held' : Option (List ℕ)) : Type 0 where
+  pub record IsPieceOfTrace (r : Reaction S P) (plan : Plan B S P) (names : Names) (nets : List ℕ) (mode : Mode) (threshold until budget : ℕ) (held held' : Option (List ℕ)) : Type 0 where
+    pub few : OnTimelines r plan nets mode threshold until budget (λ s. AreFew s budget)
+    pub crossed : ℕ
+    pub last : ℕ
+    pub windows : OnTimelines r plan nets mode threshold until budget (λ s. AreWindows s crossed last)
     pub entries : List Entry
     pub all : AreAllRecords r plan until budget entries
     pub text : AppendsPrefix (trace_text names entries until (plan.before + length entries)) held held'
 
-  abbrev pub IsPartWritten : Reaction S P → Plan B S P → Names → ℕ → ℕ → Option (List ℕ) → Option (List ℕ) → Type 0
-  IsPartWritten r plan names until budget held held' =
-      IsPieceOfRecords r plan names until budget held held' ⊎ IsPieceOfTrace r plan names until budget held held'
-
-  -- ---- the run on timelines
-
-  -- what holds of the run on the timelines of each alignment by the mode (there is one), under each such cut
-  abbrev pub OnTimelines : Reaction S P → Plan B S P → List ℕ → Mode → ℕ → ℕ → ℕ → (Scene (States B S P) (Event P) → Type 0) → Type 0
-  OnTimelines r plan nets mode threshold until budget law =
-      (lines : List ℕ) (most : ℕ) → IsAlignment plan nets mode lines → budget ≤ most → law (run_on r plan lines threshold until (within most))
+  abbrev pub IsPartWritten : Reaction S P → Plan B S P → Names → List ℕ → Mode → ℕ → ℕ → ℕ → Option (List ℕ) → Option (List ℕ) → Type 0
+  IsPartWritten r plan names nets mode threshold until budget held held' =
+      IsPieceOfRecords r plan names nets mode threshold until budget held held' ⊎ IsPieceOfTrace r plan names nets mode threshold until budget held held'

@@ -1,5 +1,5 @@
 -- A run by steps while it goes on. No public clause cites this file.
-use Rattle.std.specs.Prelude.{ℕ, ◌≡◌, ◌≤◌, min, List, length, Option, Result, Ok, Err}
+use Rattle.std.specs.Prelude.{ℕ, ◌≡◌, ◌≤◌, min, List, [], length, Option, Result, Ok, Err}
 use Rattle.event_order.specs.Machine.{within}
 use Rattle.sim_base.specs.Outside.{Appends, Rose}
 use Rattle.ssf_model.specs.declared.event.Entry.{Entry}
@@ -16,7 +16,7 @@ use Rattle.trace_writer.specs.Trace.{entries_text}
 use Rattle.trace_writer.specs.Report.{Totals}
 use Rattle.core_rules.specs.Cores.{CoreView}
 use Rattle.core_traces.specs.Kept.{run_on, IsCoreFrom}
-use Rattle.core_traces.specs.Ends.{AreWindows, EndsBudget}
+use Rattle.core_traces.specs.Ends.{AreWindows, IsInBudget, EndsBudget}
 use Rattle.step_run.specs.declared.running.StepEnd.{StepEnd}
 use Rattle.step_run.specs.declared.running.StepEnd.TheVariants.{Finished, OverBudget, MemoryBelow, Memory, TooManyTimelines, Write}
 use Rattle.step_run.specs.declared.running.Advanced.{Advanced}
@@ -26,7 +26,7 @@ use Rattle.sync_core.specs.declared.driving.DriveEnd.{DriveEnd}
 use Rattle.sync_core.specs.declared.driving.DriveEnd.TheVariants as drive
 use Rattle.sync_core.specs.declared.driving.Driven.{Driven}
 use Rattle.step_run.specs.Telling.{MostCounted, Told, IsTallied}
-use Rattle.step_run.specs.Endings.{AreRecordsBelow, AreAllRecords, IsTraced, IsWrittenBelow, IsPartWritten}
+use Rattle.step_run.specs.Endings.{IfFinished, IfOverBudget, IfMemoryBelow, IfTooMany, IfWrite, IfNotBegun, AreRecordsBelow, AreAllRecords, IsTraced, IsWrittenBelow, IsPartWritten, OnTimelines, HasStoppedAt}
 
 -- what is run: a plan on the timelines `lines`, an alignment of it by this mode and these Nets, with a threshold and a budget
 pub record Task (B S P : Type 0) : Type 0 where
@@ -97,14 +97,33 @@ module _ {B S P : Type 0} where
   pub record IsOver (r : Reaction S P) (names : Names) (until : ℕ) (task : Task B S P) (timeline below : ℕ) (first now : Output) : Type 0 where
     pub written : IsWrittenBelow r task.plan names until task.budget below first.held now.held
     pub ends : (most : ℕ) → task.budget ≤ most → EndsBudget (run_on r task.plan task.lines task.threshold until (within most)) task.budget timeline below
+    pub stopped : HasStoppedAt r task.plan task.nets task.mode task.threshold until task.budget timeline
+
+  pub record IsHalted (r : Reaction S P) (names : Names) (until : ℕ) (task : Task B S P) (below : ℕ) (first now : Output) : Type 0 where
+    pub written : IsWrittenBelow r task.plan names until task.budget below first.held now.held
+    pub in_budget : (most : ℕ) → task.budget ≤ most → IsInBudget (run_on r task.plan task.lines task.threshold until (within most)) task.budget below
 
   abbrev pub HasEnded : Reaction S P → Names → ℕ → Task B S P → Output → Output → StepEnd → Type 0
   HasEnded r names until task first now (Finished crossed last) = IsFinished r names until task crossed last first now
   HasEnded r names until task first now (OverBudget timeline below) = IsOver r names until task timeline below first now
-  HasEnded r names until task first now (MemoryBelow below) = IsWrittenBelow r task.plan names until task.budget below first.held now.held
+  HasEnded r names until task first now (MemoryBelow below) = IsHalted r names until task below first now
   HasEnded r names until task first now Memory = ⊥
   HasEnded r names until task first now (TooManyTimelines count) = ⊥
-  HasEnded r names until task first now Write = IsPartWritten r task.plan names until task.budget first.held now.held
+  HasEnded r names until task first now Write = IsPartWritten r task.plan names task.nets task.mode task.threshold until task.budget first.held now.held
+
+  -- what the end of a task says of each answer: what was written, and what the run on the timelines has
+  pub record IsTold (r : Reaction S P) (names : Names) (until : ℕ) (task : Task B S P) (first now : Output) (end : StepEnd) : Type 0 where
+    pub trace : IfFinished end (λ crossed last. IsTraced r task.plan names until task.budget first.held now.held first.tally now.tally)
+    pub few : IfFinished end (λ crossed last. OnTimelines r task.plan task.nets task.mode task.threshold until task.budget (λ s. AreFew s task.budget))
+    pub windows : IfFinished end (λ crossed last. OnTimelines r task.plan task.nets task.mode task.threshold until task.budget (λ s. AreWindows s crossed last))
+    pub over : IfOverBudget end (λ timeline below. IsWrittenBelow r task.plan names until task.budget below first.held now.held)
+    pub budget_ends : IfOverBudget end (λ timeline below. OnTimelines r task.plan task.nets task.mode task.threshold until task.budget (λ s. EndsBudget s task.budget timeline below))
+    pub stopped : IfOverBudget end (λ timeline below. HasStoppedAt r task.plan task.nets task.mode task.threshold until task.budget timeline)
+    pub memory_below : IfMemoryBelow end (λ below. IsWrittenBelow r task.plan names until task.budget below first.held now.held)
+    pub in_budget : IfMemoryBelow end (λ below. OnTimelines r task.plan task.nets task.mode task.threshold until task.budget (λ s. IsInBudget s task.budget below))
+    pub part : IfWrite end (IsPartWritten r task.plan names task.nets task.mode task.threshold until task.budget first.held now.held)
+    pub nothing : IfNotBegun end (Appends [] first.held now.held)
+    pub few_timelines : IfTooMany end (λ count. ⊥)
 
   -- what became of it in one turn: `used` steps of a schedule were tried, and it goes on; or all was executed; or it ended
   abbrev pub HasAdvanced : Reaction S P → Names → ℕ → Task B S P → CoreView B S P → Told → Output → Output → Advanced → Type 0

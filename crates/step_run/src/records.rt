@@ -105,7 +105,7 @@ impl Records {
     ///
     /// # Errors
     /// - `WriteFault` only where the sink's `faults` rose in this call. Then a part of the text from its
-    ///   beginning was appended.
+    ///   beginning was appended; what counts as written, the tally and the histories stay as they were.
     /// - `Memory` where there was none. Then nothing has changed.
     pub fn write_piece<B: Behaviour, K: Sink>(
         &mut self,
@@ -127,7 +127,8 @@ impl Records {
         ensures given_up { OnOk result (core.new ≡ without_below (safe_bound_in core.old) core.old) }
         ensures room { (self.old.room.line ≤ self.new.room.line) × (self.old.room.places ≤ self.new.room.places) }
         ensures nothing { result ≡ Err MergeFault.Memory → Appends [] (K.held sink.old) (K.held sink.new) }
-        ensures untold { result ≡ Err MergeFault.Memory → tally.new ≡ tally.old }
+        ensures untold { OnErr result (tally.new ≡ tally.old) }
+        ensures stands { OnErr result ((self.new.count ≡ self.old.count) × (self.new.below ≡ self.old.below)) }
         ensures kept { result ≡ Err MergeFault.Memory → self.new ≡ self.old }
         ensures same { OnErr result (core.new ≡ core.old) }
     {
@@ -186,7 +187,7 @@ impl Records {
         ensures cause { result ≡ Err MergeFault.WriteFault → Rose (K.faults sink.old) (K.faults sink.new) }
         ensures nothing { result ≡ Err MergeFault.Memory → Appends [] (K.held sink.old) (K.held sink.new) }
         ensures never_falls { K.faults sink.old ≤ K.faults sink.new }
-        ensures below { self.new.below ≡ self.old.below }
+        ensures kept { self.new ≡ self.old }
     {
         self.end.clear();
         end_line(until, before.saturating_add(self.count), &mut self.end)?;

@@ -10,9 +10,9 @@ ghost use Rattle.alignment.specs.declared.labels.Mode.{Mode as ModeValue};
 ghost use Rattle.alignment.specs.Alignment.{IsAlignment, timeline_count};
 ghost use Rattle.alignment.specs.Classes.{classified};
 ghost use Rattle.trace_writer.specs.Merging.{HasRoom};
-ghost use Rattle.core_traces.specs.Ends.{AreWindows, EndsBudget};
-ghost use Rattle.step_run.specs.Endings.{IfFinished, IfOverBudget, IfMemoryBelow, IfTooMany, IfWrite, IfNotBegun, IfBegun, IsTraced, IsWrittenBelow, IsPartWritten, OnTimelines};
-ghost use Rattle.step_run.specs.Going.{Task, IsGiven, Output, IsUnderWay, GoesOn, IsWhole, HasEnded, HasAdvanced, HasCause, IfFurther, IsCaused, outcome};
+ghost use Rattle.core_traces.specs.Ends.{AreWindows, IsInBudget, EndsBudget};
+ghost use Rattle.step_run.specs.Endings.{IfFinished, IfOverBudget, IfMemoryBelow, IfTooMany, IfWrite, IfNotBegun, IfBegun, IsTraced, IsWrittenBelow, IsPartWritten, OnTimelines, HasStoppedAt};
+ghost use Rattle.step_run.specs.Going.{Task, IsGiven, Output, IsUnderWay, GoesOn, IsWhole, HasEnded, IsTold, HasAdvanced, HasCause, IfFurther, IsCaused, outcome};
 ghost use Rattle.ssf_model.specs.declared.event.Names.{Names as NamesValue};
 ghost use Rattle.trace_writer.specs.Report.{Totals};
 
@@ -33,7 +33,8 @@ pub enum StepEnd {
     /// The whole trace was written. So many windows were crossed, without the first one, and the last of
     /// them, in ticks; (0, 0) where none was.
     Finished { crossed: u64, last: u64 },
-    /// A timeline has more events than the budget. Exactly the records below this time, in ticks, were written.
+    /// A timeline has more events than the budget: the first one at which the budget ends where the run stopped. Exactly
+    /// the records below this time, in ticks, were written.
     OverBudget { timeline: u32, below: u64 },
     /// There was no memory to go on. Exactly the records below this time, in ticks, were written.
     MemoryBelow(u64),
@@ -93,11 +94,13 @@ pub fn run_steps<B: Behaviour, K: Sink>(
     ensures windows { IfFinished result (λ crossed last. OnTimelines (B.reaction plan.behaviour) plan nets.now order.now.mode order.now.threshold order.now.until order.now.budget (λ s. AreWindows s crossed last)) }
     ensures over { IfOverBudget result (λ timeline below. IsWrittenBelow (B.reaction plan.behaviour) plan names.now order.now.until order.now.budget below (K.held out.old) (K.held out.new)) }
     ensures budget_ends { IfOverBudget result (λ timeline below. OnTimelines (B.reaction plan.behaviour) plan nets.now order.now.mode order.now.threshold order.now.until order.now.budget (λ s. EndsBudget s order.now.budget timeline below)) }
+    ensures stopped { IfOverBudget result (λ timeline below. HasStoppedAt (B.reaction plan.behaviour) plan nets.now order.now.mode order.now.threshold order.now.until order.now.budget timeline) }
     ensures memory_below { IfMemoryBelow result (λ below. IsWrittenBelow (B.reaction plan.behaviour) plan names.now order.now.until order.now.budget below (K.held out.old) (K.held out.new)) }
+    ensures in_budget { IfMemoryBelow result (λ below. OnTimelines (B.reaction plan.behaviour) plan nets.now order.now.mode order.now.threshold order.now.until order.now.budget (λ s. IsInBudget s order.now.budget below)) }
     ensures nothing { IfNotBegun result (Appends [] (K.held out.old) (K.held out.new)) }
     ensures too_many { IfTooMany result (λ count. (lines : List ℕ) × IsAlignment plan nets.now order.now.mode lines × (4096 < timeline_count lines) × (count ≡ timeline_count lines)) }
     ensures begun { IfBegun result ((lines : List ℕ) × IsAlignment plan nets.now order.now.mode lines × (timeline_count lines ≤ 4096)) }
-    ensures part { IfWrite result (IsPartWritten (B.reaction plan.behaviour) plan names.now order.now.until order.now.budget (K.held out.old) (K.held out.new)) }
+    ensures part { IfWrite result (IsPartWritten (B.reaction plan.behaviour) plan names.now nets.now order.now.mode order.now.threshold order.now.until order.now.budget (K.held out.old) (K.held out.new)) }
     ensures cause { IfWrite result (Rose (K.faults out.old) (K.faults out.new)) }
     ensures never_falls { K.faults out.old ≤ K.faults out.new }
 {
@@ -163,10 +166,9 @@ fn run_prepared<B: Behaviour, K: Sink>(
     requires classes { prepared.old.classes ≡ classified prepared.old.alignment order.now.threshold plan.mappings }
     requires room { HasRoom names.now (timeline_count prepared.old.alignment) prepared.old.records.room }
     requires none { (prepared.old.records.count ≡ 0) × (prepared.old.records.below ≡ 0) }
-    ensures ended { (result ≡ StepEnd.Memory) ⊎ ((nets : List ℕ) (mode : ModeValue) → IsAlignment plan nets mode prepared.old.alignment
-        → HasEnded (B.reaction plan.behaviour) names.now order.now.until (record { plan = plan; nets = nets; mode = mode; lines = prepared.old.alignment; threshold = order.now.threshold; budget = order.now.budget })
-        (record { held = K.held out.old; tally = tally.old }) (record { held = K.held out.new; tally = tally.new }) result) }
-    ensures nothing { IfNotBegun result (Appends [] (K.held out.old) (K.held out.new)) }
+    ensures told { (nets : List ℕ) (mode : ModeValue) → IsAlignment plan nets mode prepared.old.alignment
+        → IsTold (B.reaction plan.behaviour) names.now order.now.until (record { plan = plan; nets = nets; mode = mode; lines = prepared.old.alignment; threshold = order.now.threshold; budget = order.now.budget })
+        (record { held = K.held out.old; tally = tally.old }) (record { held = K.held out.new; tally = tally.new }) result }
     ensures cause { IsCaused (K.faults out.old) (K.faults out.new) result }
     ensures never_falls { K.faults out.old ≤ K.faults out.new }
 {

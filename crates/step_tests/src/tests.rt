@@ -194,6 +194,46 @@ fn a_channel_holds(rt: HostRuntime) -> Result<(), Fail> {
     Ok(())
 }
 
+// Two nodes have an event too many at the same time. Which of them stops the run is told by the schedule.
+#[test]
+fn schedules_tell_who_stops(rt: HostRuntime) -> Result<(), Fail> {
+    let model = Model {
+        nodes: 2,
+        tokens: &[0, 1],
+        hops: &[hop(0, 1, 5), hop(1, 0, 5)],
+        until: 10,
+    };
+    let first_takes = [
+        Step::Report(0),
+        Step::Report(1),
+        Step::Cross,
+        Step::Enter(0),
+        Step::Enter(1),
+        Step::Post(0, 2),
+        Step::Take(1),
+        Step::Post(1, 3),
+        Step::Take(0),
+        Step::Execute(1),
+        Step::Execute(0),
+        Step::Post(1, 3),
+        Step::Take(0),
+    ];
+    let due = TRACE.get(..24).unwrap_or(&[]);
+    for (schedule, end) in [
+        (&[] as &[Step], over(1, 5)),
+        (first_takes.as_slice(), over(0, 5)),
+    ] {
+        let way = Way {
+            mode: Mode::Host,
+            threshold: MOST,
+            budget: 1,
+            schedule,
+        };
+        assert_eq!(rt; end_of(rt.alloc(), &model, &way, due)?, end);
+    }
+    Ok(())
+}
+
 // A token that comes back in no time goes on for ever at time 0: nothing is written.
 #[test]
 fn endless_rounds(rt: HostRuntime) -> Result<(), Fail> {

@@ -1,10 +1,11 @@
 -- Such a timeline can execute its first event, and stays such a one.
-use Rattle.std.proofs.Common.{◌≡◌, ℕ, zero, suc, ◌+◌, ◌-◌, ◌^◌, ◌<◌, ◌≤◌, ◌⊎◌, Bool, true, false, cond, nat_eq, nat_le, List, [], ◌∷◌, length, map, replicate, refl, sym, ap, ◌∙◌, subst, inl, inr, arith, eq-eqb, count_by, Option, Some, None, option_map, unwrap_or, Result, Ok, Err, IfOk, OnOk, OnErr, if◌then◌else◌}
+use Rattle.std.proofs.Common.{◌≡◌, ℕ, zero, suc, ◌+◌, ◌-◌, ◌^◌, ◌<◌, ◌≤◌, ◌⊎◌, Bool, true, false, cond, nat_eq, nat_le, List, [], ◌∷◌, length, map, replicate, refl, sym, ap, ◌∙◌, subst, inl, inr, arith, eq-eqb, eqb-true, count_by, Option, Some, None, option_map, unwrap_or, Result, Ok, Err, IfOk, OnOk, OnErr, if◌then◌else◌}
 use Rattle.std.specs.List.{flat_map, All}
 use Rattle.std.proofs.lemmas.Grind.{common_steps}
 use Rattle.event_order.specs.declared.key.Key.{Key}
 use Rattle.event_order.specs.Machine.{due}
-use Rattle.event_order.specs.Pending.{Among, IsApart, put_all}
+use Rattle.event_order.specs.Order.{comes_before}
+use Rattle.event_order.specs.Pending.{Among, IsApart, put, put_all}
 use Rattle.event_order.proofs.Pending.{test_cases}
 use Rattle.ssf_model.specs.declared.event.Event.{Event}
 use Rattle.ssf_model.specs.declared.event.Parcel.{Parcel}
@@ -18,7 +19,7 @@ use Rattle.ssf_model.specs.Reaction.{Each, LatestTime, LongestDelay}
 use Rattle.ssf_model.specs.Deliver.{delivered, IsTimely}
 use Rattle.ssf_model.specs.Wake.{waits_on}
 use Rattle.ssf_model.specs.Channels.{Sent, numbered, is_on, delivered_to}
-use Rattle.ssf_model.proofs.Lists.{count_yes, each_all}
+use Rattle.ssf_model.proofs.Lists.{count_yes, each_all, each_among}
 use Rattle.ring_model.specs.declared.ring.RingState.{RingState}
 use Rattle.ring_model.specs.declared.ring.RingPayload.{RingPayload}
 use Rattle.ring_model.specs.Reacting.{ring_reaction, IsRing, token}
@@ -37,11 +38,11 @@ use Rattle.timeline.specs.View.{TimelineOf, key_of, routes_by}
 use Rattle.timeline_parts.specs.Parts.{channel_of, IsPart}
 use Rattle.timeline.specs.Opening.{first_out, IsFirst}
 use Rattle.timeline.specs.Moving.{taken_end, posted_end, MayTake, IsTaken, IsHandedOut, entered_at, without}
-use Rattle.timeline.specs.Holding.{IsInOrder}
+use Rattle.timeline.specs.Holding.{taken_of, IsInOrder}
 use Rattle.timeline.specs.Executing.{refusal, MayRun, IsRun, sent_in, written_in, spent_of}
 use Rattle.timeline.proofs.Refusals.{refusal_spent, refusal_idle}
 use Rattle.timeline.proofs.Kept.{numbers_first_in, numbers_first_out}
-use Rattle.timeline_tests.specs.Tame.{ends_a_wait, IsPlain, IsTame, IsNode, IsSimple, IsNodePart, IsSmall, first_count}
+use Rattle.timeline_tests.specs.Tame.{ends_a_wait, IsPlain, HasCome, IsTame, IsNode, IsSimple, IsNodePart, IsSmall, first_count}
 
 timely : (kind : Kind RingPayload) (ps : List Process) → ends_a_wait kind ≡ false → IsTimely kind ps
 timely Begin ps h = tt
@@ -208,6 +209,7 @@ module _ {B : Type 0} (number : ℕ) (t : TimelineOf B RingState RingPayload) (t
   pub stays_tame : (after : TimelineOf B RingState RingPayload) (x : Entity B RingState RingPayload) (q : IsRun ring_reaction t after) → t.entities ≡ (number, x) ∷ [] → IsNode x → length t.outs ≤ 1 → IsTame number after
   stays_tame after x q only node outs =
       let first : Each (IsPlain number) (q.event ∷ q.rest) = subst (λ es. Each (IsPlain number) es) q.first tame.pending in
+      let came : Each (HasCome number t.in_ends) (q.event ∷ q.rest) = subst (λ es. Each (HasCome number t.in_ends) es) q.first tame.come in
       let plain : IsPlain number q.event = first.0 in
       let there : item_at q.event.entity t.entities ≡ Some x = let here : nat_eq number number ≡ true = eq-eqb number number refl in rw (only, plain.entity, here) refl in
       let both : Some q.entity ≡ Some x = sym q.at ∙ there in
@@ -218,6 +220,9 @@ module _ {B : Type 0} (number : ℕ) (t : TimelineOf B RingState RingPayload) (t
       record {
         pending = subst (λ ds. Each (IsPlain number) ds)
             (sym (ap (λ (a : TimelineOf B RingState RingPayload). a.pending) q.is ∙ ap (λ ds. put_all key_of ds q.rest) (stays_none ss q.event.key (count_of t.counts) all))) first.1;
+        come = subst (λ ends. Each (HasCome number ends) after.pending) (sym (ap (λ (a : TimelineOf B RingState RingPayload). a.in_ends) q.is))
+            (subst (λ ds. Each (HasCome number t.in_ends) ds)
+            (sym (ap (λ (a : TimelineOf B RingState RingPayload). a.pending) q.is ∙ ap (λ ds. put_all key_of ds q.rest) (stays_none ss q.event.key (count_of t.counts) all))) came.1);
         inside = ap (λ (a : TimelineOf B RingState RingPayload). a.inside) q.is ∙ tame.inside;
         counts = ap (λ (a : TimelineOf B RingState RingPayload). numbers_of a.counts) q.is ∙ (numbers_all_counted es t.counts ∙ (tame.counts ∙ sym (ap (λ (a : TimelineOf B RingState RingPayload). map channel_of a.outs) q.is)));
         in_ends = ap (λ (a : TimelineOf B RingState RingPayload). numbers_of a.in_ends) q.is ∙ (tame.in_ends ∙ sym (ap (λ (a : TimelineOf B RingState RingPayload). map channel_of a.ins) q.is));
@@ -253,6 +258,69 @@ none_written : (outs : List Cross) (c : ℕ) → written_of (map (first_out {P =
 none_written [] c = refl
 none_written (o ∷ outs) c = elim (test_cases (nat_eq c o.mapping.channel)) [ inl t ↦ rw t refl | inr f ↦ rw f (none_written outs c) ]
 
+-- how much was taken from channels, where more was taken from one
+grown : (end promise : ℕ) (o : Option InEnd) → unwrap_or (option_map (λ (e : InEnd). e.taken) o) 0 ≤ end →
+    unwrap_or (option_map (λ (e : InEnd). e.taken) o) 0 ≤ unwrap_or (option_map (λ (e : InEnd). e.taken) (option_map (taken_end end promise) o)) 0
+grown end promise None low = omega arith
+grown end promise (Some e) low = low
+
+taken_grows : (c k end promise : ℕ) (ends : List (ℕ × InEnd)) → taken_of ends c ≤ end → taken_of ends k ≤ taken_of (changed c (taken_end end promise) ends) k
+taken_grows c k end promise ends low =
+    let now : item_at k (changed c (taken_end end promise) ends) ≡ cond (nat_eq k c) (option_map (taken_end end promise) (item_at k ends)) (item_at k ends) = item_changed k c (taken_end end promise) ends in
+    rw now (elim (test_cases (nat_eq k c)) [
+      | inl t ↦ let same : taken_of ends k ≤ end = subst (λ n. taken_of ends n ≤ end) (sym (eqb-true k c t)) low in rw t (grown end promise (item_at k ends) same)
+      | inr f ↦ rw f (omega arith)
+    ])
+
+taken_now : (c end promise : ℕ) (ends : List (ℕ × InEnd)) → Among c (numbers_of ends) → taken_of (changed c (taken_end end promise) ends) c ≡ end
+taken_now c end promise ends known =
+    let found = known_item c ends known in
+    let at : item_at c ends ≡ Some found.0 = found.1 in
+    let same : nat_eq c c ≡ true = eq-eqb c c refl in
+    let now : item_at c (changed c (taken_end end promise) ends) ≡ cond (nat_eq c c) (option_map (taken_end end promise) (item_at c ends)) (item_at c ends) = item_changed c c (taken_end end promise) ends in
+    rw (now, same, at) refl
+
+each_put : (Q : Event RingPayload → Type 0) (e : Event RingPayload) (ys : List (Event RingPayload)) → Q e → Each Q ys → Each Q (put key_of e ys)
+each_put Q e [] here all = (here, tt)
+each_put Q e (y ∷ ys) here all = elim (test_cases (comes_before e.key y.key)) [ inl t ↦ rw t (here, all) | inr f ↦ rw f (all.0, each_put Q e ys here all.1) ]
+
+module _ (number : ℕ) where
+  come_still : (c end promise : ℕ) (ends : List (ℕ × InEnd)) (es : List (Event RingPayload)) → taken_of ends c ≤ end → Each (HasCome number ends) es → Each (HasCome number (changed c (taken_end end promise) ends)) es
+  come_still c end promise ends [] low come = tt
+  come_still c end promise ends (e ∷ es) low come = (
+    elim come.0 [
+      | inl own ↦ inl own
+      | inr below ↦ let more = taken_grows c e.key.channel end promise ends low in inr (omega (arith, below, more))
+    ],
+    come_still c end promise ends es low come.1,
+  )
+
+  come_now : (c taken promise : ℕ) (ends : List (ℕ × InEnd)) (e : Event RingPayload) → Among c (numbers_of ends) → e.key.channel ≡ c → e.key.number ≡ taken → HasCome number (changed c (taken_end (taken + 1) promise) ends) e
+  come_now c taken promise ends e there on next =
+      let now : taken_of (changed c (taken_end (taken + 1) promise) ends) e.key.channel ≡ taken + 1 =
+      ap (λ k. taken_of (changed c (taken_end (taken + 1) promise) ends) k) on ∙ taken_now c (taken + 1) promise ends there in
+      inr (omega (arith, now, next))
+
+  -- a parcel with one event that is taken in
+  tame_one : (c promise : ℕ) (ends : List (ℕ × InEnd)) (pending : List (Event RingPayload)) (e : Event RingPayload) → Among c (numbers_of ends) → IsPlain number e → e.key.channel ≡ c → e.key.number ≡ taken_of ends c →
+      Each (IsPlain number) pending → Each (HasCome number ends) pending →
+      Each (IsPlain number) (put key_of e pending) × Each (HasCome number (changed c (taken_end (taken_of ends c + 1) promise) ends)) (put key_of e pending)
+  tame_one c promise ends pending e there plain on next all come = (
+    each_put (IsPlain number) e pending plain all,
+    each_put (HasCome number (changed c (taken_end (taken_of ends c + 1) promise) ends)) e pending (come_now c (taken_of ends c) promise ends e there on next)
+        (come_still c (taken_of ends c + 1) promise ends pending (omega arith) come),
+  )
+
+  -- the next event of a channel has another key than all that has come
+  is_new : (c : ℕ) (ends : List (ℕ × InEnd)) (x y : Event RingPayload) → x.key.channel ≡ c → x.key.number ≡ taken_of ends c → (c ≡ number → ⊥) → HasCome number ends y → key_of x ≡ key_of y → ⊥
+  is_new c ends x y on next other come same =
+      let channel : y.key.channel ≡ c = sym (ap (λ (k : Key). k.channel) same) ∙ on in
+      let count : y.key.number ≡ taken_of ends c = sym (ap (λ (k : Key). k.number) same) ∙ next in
+      elim come [
+        | inl own ↦ other (sym channel ∙ own)
+        | inr below ↦ let low : y.key.number < taken_of ends c = subst (λ k. y.key.number < taken_of ends k) channel below in absurd (omega (arith, low, count))
+      ]
+
 module _ {B : Type 0} (number : ℕ) where
   pub is_part : (ins outs : List Cross) (part : Part B RingState RingPayload) → IsNodePart number ins outs part → AreRising (map channel_of ins) → AreRising (map channel_of outs) → IsPart part
   is_part ins outs part n ins_rise outs_rise = record {
@@ -270,6 +338,7 @@ module _ {B : Type 0} (number : ℕ) where
       let ends_are : t.out_ends ≡ map first_out outs = q.out_ends ∙ ap (map first_out) n.outs_are in
       record {
         pending = subst (λ es. Each (IsPlain number) es) (sym (q.pending ∙ ap (λ es. put_all key_of es []) n.events)) (n.plain, tt);
+        come = subst (λ es. Each (HasCome number t.in_ends) es) (sym (q.pending ∙ ap (λ es. put_all key_of es []) n.events)) (inl n.own, tt);
         inside = q.inside ∙ n.inside;
         counts = ap numbers_of counts_are ∙ (numbers_first_count outs ∙ sym (ap (map channel_of) outs_are));
         ends = ap numbers_of ends_are ∙ (numbers_first_out RingPayload outs ∙ sym (ap (map channel_of) outs_are));
@@ -280,20 +349,20 @@ module _ {B : Type 0} (number : ℕ) where
 
   pub tame_entered : (entered : Bool) (window : ℕ) (t after : TimelineOf B RingState RingPayload) → IsTame number t → after ≡ (if entered then entered_at window t else t) → IsTame number after
   tame_entered true window t after h is = subst (IsTame number) (sym is)
-      (record { pending = h.pending; inside = h.inside; counts = h.counts; ends = h.ends; in_ends = h.in_ends; few = h.few; few_out = h.few_out })
+      (record { pending = h.pending; come = h.come; inside = h.inside; counts = h.counts; ends = h.ends; in_ends = h.in_ends; few = h.few; few_out = h.few_out })
   tame_entered false window t after h is = subst (IsTame number) (sym is) h
 
   pub tame_spared : (t after : TimelineOf B RingState RingPayload) → IsTame number t → after ≡ record t { spare = after.spare } → IsTame number after
   tame_spared t after h is = subst (IsTame number) (sym is)
-      (record { pending = h.pending; inside = h.inside; counts = h.counts; ends = h.ends; in_ends = h.in_ends; few = h.few; few_out = h.few_out })
+      (record { pending = h.pending; come = h.come; inside = h.inside; counts = h.counts; ends = h.ends; in_ends = h.in_ends; few = h.few; few_out = h.few_out })
 
   pub tame_without : (below : ℕ) (t after : TimelineOf B RingState RingPayload) → IsTame number t → after ≡ without below t → IsTame number after
   tame_without below t after h is = subst (IsTame number) (sym is)
-      (record { pending = h.pending; inside = h.inside; counts = h.counts; ends = h.ends; in_ends = h.in_ends; few = h.few; few_out = h.few_out })
+      (record { pending = h.pending; come = h.come; inside = h.inside; counts = h.counts; ends = h.ends; in_ends = h.in_ends; few = h.few; few_out = h.few_out })
 
   pub tame_spent : (t after : TimelineOf B RingState RingPayload) → IsTame number t → after ≡ spent_of t after → IsTame number after
   tame_spent t after h is = subst (IsTame number) (sym is)
-      (record { pending = h.pending; inside = h.inside; counts = h.counts; ends = h.ends; in_ends = h.in_ends; few = h.few; few_out = h.few_out })
+      (record { pending = h.pending; come = h.come; inside = h.inside; counts = h.counts; ends = h.ends; in_ends = h.in_ends; few = h.few; few_out = h.few_out })
 
   pub tame_handed : (c : ℕ) (parcel : Parcel RingPayload) (t after : TimelineOf B RingState RingPayload) → IsTame number t → IsHandedOut t c parcel after → IsTame number after
   tame_handed c parcel t after h q =
@@ -301,6 +370,7 @@ module _ {B : Type 0} (number : ℕ) where
       let made : TimelineOf B RingState RingPayload = record t { out_ends = after.out_ends } in
       subst (IsTame number) (sym q.same) (record {
         pending = h.pending;
+        come = h.come;
         inside = h.inside;
         counts = h.counts;
         ends = ap numbers_of left ∙ (numbers_changed c posted_end t.out_ends ∙ h.ends);
@@ -309,25 +379,34 @@ module _ {B : Type 0} (number : ℕ) where
         few_out = λ k. let same : written_of after.out_ends k ≡ written_of t.out_ends k = ap (λ os. written_of os k) left ∙ still_written c k t.out_ends in let old = h.few_out k in omega (arith, same, old);
       })
 
-  pub tame_taken : (c : ℕ) (parcel : Parcel RingPayload) (idle : Bool) (t after : TimelineOf B RingState RingPayload) → IsTame number t → IsSmall number idle parcel.events → (idle ≡ true → t.pending ≡ []) → IsTaken t c parcel after → IsTame number after
-  tame_taken c parcel idle t after h small empty q =
-      let end : ℕ → InEnd → InEnd = λ taken e. taken_end taken parcel.promise e in
+  pub tame_taken : (c : ℕ) (parcel : Parcel RingPayload) (t after : TimelineOf B RingState RingPayload) → IsTame number t → IsSmall number c (taken_of t.in_ends c) parcel.events → parcel.first ≡ taken_of t.in_ends c →
+      Among c (numbers_of t.in_ends) → IsTaken t c parcel after → IsTame number after
+  tame_taken c parcel t after h small first known q =
+      let end : ℕ = parcel.first + length parcel.events in
+      let ends : List (ℕ × InEnd) = changed c (taken_end end parcel.promise) t.in_ends in
+      let both : Each (IsPlain number) (put_all key_of parcel.events t.pending) × Each (HasCome number ends) (put_all key_of parcel.events t.pending) = elim small [
+        | inl none ↦ subst (λ es. Each (IsPlain number) (put_all key_of es t.pending) × Each (HasCome number ends) (put_all key_of es t.pending)) (sym none)
+            (h.pending, come_still number c end parcel.promise t.in_ends t.pending (omega (arith, first)) h.come)
+        | inr one ↦ let size : length parcel.events ≡ 1 = ap length one.is in
+            let up : end ≡ taken_of t.in_ends c + 1 = omega (arith, size, first) in
+            subst (λ es. Each (IsPlain number) (put_all key_of es t.pending) × Each (HasCome number ends) (put_all key_of es t.pending)) (sym one.is)
+            (subst (λ n. Each (IsPlain number) (put key_of one.event t.pending) × Each (HasCome number (changed c (taken_end n parcel.promise) t.in_ends)) (put key_of one.event t.pending)) (sym up)
+            (tame_one number c parcel.promise t.in_ends t.pending one.event known one.plain one.on one.next h.pending h.come))
+      ] in
       subst (IsTame number) (sym q.is) (record {
-        pending = elim small [
-          | inl none ↦ subst (λ es. Each (IsPlain number) es) (sym (ap (λ es. put_all key_of es t.pending) none)) h.pending
-          | inr one ↦ subst (λ es. Each (IsPlain number) es) (sym (ap (λ es. put_all key_of es t.pending) one.is ∙ ap (λ ps. put_all key_of (one.event ∷ []) ps) (empty one.alone))) (one.plain, tt)
-        ];
+        pending = both.0;
+        come = both.1;
         inside = h.inside;
         counts = h.counts;
         ends = h.ends;
-        in_ends = numbers_changed c (end (parcel.first + length parcel.events)) t.in_ends ∙ h.in_ends;
+        in_ends = numbers_changed c (taken_end end parcel.promise) t.in_ends ∙ h.in_ends;
         few = h.few;
         few_out = h.few_out;
       })
 
-  pub may_take : (c : ℕ) (parcel : Parcel RingPayload) (idle : Bool) (t : TimelineOf B RingState RingPayload) → IsTame number t → IsSmall number idle parcel.events → (idle ≡ true → t.pending ≡ []) →
+  pub may_take : (c : ℕ) (parcel : Parcel RingPayload) (t : TimelineOf B RingState RingPayload) → IsTame number t → IsSmall number c (taken_of t.in_ends c) parcel.events → parcel.first ≡ taken_of t.in_ends c →
       Among c (map channel_of t.ins) → parcel.first ≤ 1000 → MayTake t c parcel
-  may_take c parcel idle t h small empty on first = record {
+  may_take c parcel t h small begins on first = record {
     known = subst (λ ns. Among c ns) (sym h.in_ends) on;
     new = elim small [
       | inl none ↦ record {
@@ -336,7 +415,10 @@ module _ {B : Type 0} (number : ℕ) where
       }
       | inr one ↦ record {
         apart = subst (λ (es : List (Event RingPayload)). IsApart key_of es) (sym one.is) (λ x a. absurd a, tt);
-        others = λ x y a b s. absurd (subst (λ ps. Among y ps) (empty one.alone) b);
+        others = λ x y a b s. elim (subst (λ es. Among x es) one.is a) [
+          | inl e ↦ is_new number c t.in_ends one.event y one.on one.next one.other (each_among (HasCome number t.in_ends) t.pending y h.come b) (sym (ap key_of e) ∙ s)
+          | inr rest ↦ absurd rest
+        ];
       }
     ];
     end = elim small [
@@ -380,11 +462,11 @@ module _ {B : Type 0} (number : ℕ) where
   ]
   tame_executed (Err m) t after h simple refused ran spent = tame_spent t after h spent.1
 
-  pub tame_tried : {U M : Type 0} (result : Result U M) (c : ℕ) (parcel : Parcel RingPayload) (idle : Bool) (t after : TimelineOf B RingState RingPayload) →
-      IsTame number t → IsSmall number idle parcel.events → (idle ≡ true → t.pending ≡ []) →
+  pub tame_tried : {U M : Type 0} (result : Result U M) (c : ℕ) (parcel : Parcel RingPayload) (t after : TimelineOf B RingState RingPayload) →
+      IsTame number t → IsSmall number c (taken_of t.in_ends c) parcel.events → parcel.first ≡ taken_of t.in_ends c → Among c (numbers_of t.in_ends) →
       OnOk result (IsTaken t c parcel after) → OnErr result (after ≡ t) → IsTame number after
-  tame_tried (Ok u) c parcel idle t after h small empty taken kept = tame_taken c parcel idle t after h small empty taken
-  tame_tried (Err m) c parcel idle t after h small empty taken kept = subst (IsTame number) (sym kept) h
+  tame_tried (Ok u) c parcel t after h small first known taken kept = tame_taken c parcel t after h small first known taken
+  tame_tried (Err m) c parcel t after h small first known taken kept = subst (IsTame number) (sym kept) h
 
   pub on_outs : (c : ℕ) (t : TimelineOf B RingState RingPayload) → IsTame number t → Among c (map channel_of t.outs) → Among c (numbers_of t.out_ends)
   on_outs c t h on = subst (λ ns. Among c ns) (sym h.ends) on
@@ -396,7 +478,3 @@ pub rising_short : (xs : List Cross) → length xs < 2 → AreRising (map channe
 rising_short [] h = tt
 rising_short (x ∷ []) h = (λ k a. absurd a, tt)
 rising_short (x ∷ y ∷ xs) h = absurd (omega arith)
-
-pub empty_of : {T : Type 0} (xs : List T) → length xs ≡ 0 → xs ≡ []
-empty_of [] h = refl
-empty_of (x ∷ xs) h = absurd (omega arith)

@@ -11,9 +11,11 @@ use Rattle.ring_model.specs.declared.ring.RingState.{RingState}
 use Rattle.ring_model.specs.declared.ring.RingPayload.{RingPayload}
 use Rattle.timeline_parts.specs.Tables.{numbers_of}
 use Rattle.timeline_parts.specs.Sending.{count_of, written_of}
+use Rattle.timeline_parts.specs.declared.ends.InEnd.{InEnd}
 use Rattle.timeline_parts.specs.declared.part.Cross.{Cross}
 use Rattle.timeline_parts.specs.declared.part.Part.{Part}
 use Rattle.timeline.specs.View.{TimelineOf}
+use Rattle.timeline.specs.Holding.{taken_of}
 use Rattle.timeline_parts.specs.Parts.{channel_of}
 
 abbrev pub ends_a_wait : Kind RingPayload → Bool
@@ -27,9 +29,14 @@ pub record IsPlain (number : ℕ) (e : Event RingPayload) : Type 0 where
   pub kind : ends_a_wait e.kind ≡ false
   pub round : e.key.round < 1000
 
--- all that is pending is for this node, and all that it writes goes to other timelines, on channels that are counted
+-- the node's own start, or an event that was taken from its channel
+abbrev pub HasCome : ℕ → List (ℕ × InEnd) → Event RingPayload → Type 0
+HasCome number ends e = (e.key.channel ≡ number) ⊎ (e.key.number < taken_of ends e.key.channel)
+
+-- all that is pending is for this node and has come to it, and all that it writes goes to other timelines, on channels that are counted
 pub record IsTame {B : Type 0} (number : ℕ) (t : TimelineOf B RingState RingPayload) : Type 0 where
   pub pending : Each (IsPlain number) t.pending
+  pub come : Each (HasCome number t.in_ends) t.pending
   pub inside : t.inside ≡ []
   pub counts : numbers_of t.counts ≡ map channel_of t.outs
   pub ends : numbers_of t.out_ends ≡ map channel_of t.outs
@@ -69,18 +76,21 @@ pub record IsNodePart {B : Type 0} (number : ℕ) (ins outs : List Cross) (part 
   pub event : Event RingPayload
   pub events : part.events ≡ event ∷ []
   pub plain : IsPlain number event
+  pub own : event.key.channel ≡ number
   pub inside : part.inside ≡ []
   pub ins_are : part.ins ≡ ins
   pub outs_are : part.outs ≡ outs
   pub counts : part.counts ≡ map first_count outs
 
--- one event for this node, where nothing is pending
-pub record IsLone (number : ℕ) (idle : Bool) (events : List (Event RingPayload)) : Type 0 where
+-- one event for this node, the next on a channel from which so many were taken
+pub record IsLone (number channel taken : ℕ) (events : List (Event RingPayload)) : Type 0 where
   pub event : Event RingPayload
   pub is : events ≡ event ∷ []
-  pub alone : idle ≡ true
   pub plain : IsPlain number event
+  pub on : event.key.channel ≡ channel
+  pub next : event.key.number ≡ taken
+  pub other : channel ≡ number → ⊥
 
--- no event, or one where nothing is pending
-abbrev pub IsSmall : ℕ → Bool → List (Event RingPayload) → Type 0
-IsSmall number idle events = (events ≡ []) ⊎ IsLone number idle events
+-- no event, or one such
+abbrev pub IsSmall : ℕ → ℕ → ℕ → List (Event RingPayload) → Type 0
+IsSmall number channel taken events = (events ≡ []) ⊎ IsLone number channel taken events

@@ -72,14 +72,17 @@ impl Node {
         self.timeline.execute(&Ring {}).ok()
     }
 
-    /// Takes in a parcel with no event, or with one where nothing is pending, and answers whether it
-    /// did.
-    #[tactic(auto, using(crate::proofs::Tame::may_take))]
+    /// Takes in a parcel with at most one event, which begins where the node has taken up to, and
+    /// answers whether it did.
+    #[tactic(auto, using(crate::proofs::Tame::on_ins))]
     pub fn take_in(&mut self, channel: u32, parcel: Parcel<RingPayload>) -> bool {
-        let idle = is_idle(&self.timeline);
-        if !is_on(self.timeline.ins(), channel)
-            || !is_small(parcel.events.as_slice(), self.number, idle)
-            || parcel.first > 1000
+        if !is_on(self.timeline.ins(), channel) {
+            return false;
+        }
+        let taken = self.timeline.taken(channel);
+        if taken > 1000
+            || parcel.first != taken
+            || !is_small(parcel.events.as_slice(), self.number, channel, taken)
         {
             return false;
         }
@@ -233,21 +236,20 @@ fn is_only(channels: &[u32], number: u32) -> bool
     }
 }
 
-#[tactic(auto, using(crate::proofs::Tame::empty_of))]
-fn is_idle(timeline: &Timeline<Ring>) -> bool
-    ensures { IsTrue result → timeline.now.pending ≡ [] }
-{
-    timeline.pending() == 0
-}
-
-/// Whether there is no event, or one for this node where nothing is pending.
-fn is_small(events: &[Event<RingPayload>], number: u32, idle: bool) -> bool
-    ensures { IsTrue result → IsSmall number idle events.now }
+/// Whether there is no event, or one for this node, the next on a channel from which so many were
+/// taken.
+fn is_small(events: &[Event<RingPayload>], number: u32, channel: u32, taken: u64) -> bool
+    ensures { IsTrue result → IsSmall number channel taken events.now }
 {
     match events {
         [] => true,
         [event] => {
-            idle && event.entity == number && event.key.round < 1000 && !is_wait_end(&event.kind)
+            channel != number
+                && event.entity == number
+                && event.key.round < 1000
+                && event.key.channel == channel
+                && event.key.number == taken
+                && !is_wait_end(&event.kind)
         }
         _ => false,
     }
@@ -317,7 +319,8 @@ fn entity_of(alloc: Global, number: u32, tokens: u32) -> Result<Entity<Ring>, Me
 
 /// The start of a node.
 pub fn start(number: u32) -> Event<RingPayload>
-    ensures { IsPlain number result }
+    ensures plain { IsPlain number result }
+    ensures own { result.key.channel ≡ number }
 {
     Event {
         key: Key {

@@ -1,6 +1,9 @@
 //! Nodes of a ring that are executed side by side.
 
+ghost use Rattle.std.specs.Prelude.{◌≤◌};
+
 use crate::node::{Node, hop, start};
+use event_order::Key;
 use ring_model::RingPayload;
 use sim_base::ListOf;
 use ssf_model::Parcel;
@@ -132,12 +135,74 @@ fn is_count(counts: &[(u32, u64)], channel: u32, count: u64) -> bool {
     }
 }
 
+// Nodes 0 and 1 with a token each, and a hop from each to node 2: channels 3 and 4, with delay 4,
+// appointed. The run ends at 5, so the first window is 6. Node 1 has executed its start and posted the
+// event at 4 when node 2 takes its mail and enters the window: channel 3, on which nothing is promised
+// yet, holds the start of node 2.
+fn channel_case(alloc: Global) -> bool {
+    match Node::new(alloc, 1, 1, &[], &[to_two(1)], 5, BUDGET) {
+        Some(mut one) => has_zero_beside(alloc, &mut one),
+        None => false,
+    }
+}
+
+fn has_zero_beside(alloc: Global, one: &mut Node) -> bool {
+    match Node::new(alloc, 0, 1, &[], &[to_two(0)], 5, BUDGET) {
+        Some(mut zero) => has_two_beside(alloc, &mut zero, one),
+        None => false,
+    }
+}
+
+fn has_two_beside(alloc: Global, zero: &mut Node, one: &mut Node) -> bool {
+    match Node::new(alloc, 2, 0, &[to_two(0), to_two(1)], &[], 5, BUDGET) {
+        Some(mut two) => is_held_by_three(one, &mut two) && goes_on(zero, &mut two),
+        None => false,
+    }
+}
+
+// The hop from node 0 or 1 to node 2.
+fn to_two(from: u32) -> Cross
+    requires { from ≤ 1 }
+{
+    hop(3 + from, from, 2, 4, from, true)
+}
+
+fn is_held_by_three(one: &mut Node, two: &mut Node) -> bool {
+    one.enter(6, &[0, 0])
+        && one.execute() == Some(Ran::Ran(start(1).key))
+        && moves(one, two, 4, 0, 1, 6)
+        && two.taken(4) == Some((1, 6))
+        && two.enter(6, &[0, 0])
+        && two.execute() == Some(Ran::Held(0, Holder::Channel(3)))
+        && two.timeline().pending() == 2
+        && two.timeline().lower_bound() == 0
+}
+
+// With the promise of node 0, node 2 executes all that is in time.
+fn goes_on(zero: &mut Node, two: &mut Node) -> bool {
+    zero.enter(6, &[0, 0])
+        && zero.execute() == Some(Ran::Ran(start(0).key))
+        && moves(zero, two, 3, 0, 1, 6)
+        && two.execute() == Some(Ran::Ran(start(2).key))
+        && two.execute() == Some(Ran::Ran(arrival(3)))
+        && two.execute() == Some(Ran::Ran(arrival(4)))
+        && two.execute() == Some(Ran::Idle)
+}
+
+fn arrival(channel: u32) -> Key {
+    Key {
+        time: 4,
+        round: 0,
+        priority: 0,
+        channel,
+        number: 0,
+    }
+}
+
 // Node 2 has two appointed channels, of which the first holds it at 0. A lesser appointment does not
 // replace a greater one.
-fn channel_case(alloc: Global) -> bool {
-    let first = hop(3, 0, 2, 4, 0, true);
-    let second = hop(4, 1, 2, 4, 1, true);
-    match Node::new(alloc, 2, 0, &[first, second], &[], 5, BUDGET) {
+fn appointment_case(alloc: Global) -> bool {
+    match Node::new(alloc, 2, 0, &[to_two(0), to_two(1)], &[], 5, BUDGET) {
         Some(mut two) => waits_for_both(alloc, &mut two),
         None => false,
     }
@@ -217,6 +282,11 @@ fn is_held_by_a_window(rt: HostRuntime) {
 #[test]
 fn is_held_by_a_channel(rt: HostRuntime) {
     assert!(rt; channel_case(rt.alloc()));
+}
+
+#[test]
+fn keeps_the_greater_appointment(rt: HostRuntime) {
+    assert!(rt; appointment_case(rt.alloc()));
 }
 
 #[test]

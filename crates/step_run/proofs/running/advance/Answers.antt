@@ -6,10 +6,9 @@ use Rattle.core_rules.specs.Reading.{safe_bound_in}
 use Rattle.sync_core.specs.declared.driving.DriveEnd.TheVariants as drive
 use Rattle.sync_core.specs.declared.driving.Driven.{Driven}
 use Rattle.step_run.specs.Telling.{Told}
-use Rattle.step_run.specs.Endings.{IsWrittenBelow}
-use Rattle.step_run.specs.Going.{Output, KeepsFrom, GoesOn, HasAdvanced, HasCause, IfFurther, outcome}
+use Rattle.step_run.specs.Going.{Output, KeepsFrom, GoesOn, IsHalted, HasAdvanced, HasCause, IfFurther, outcome}
 use Rattle.step_run.proofs.Going.{AreDriven, of_run, can_merge, keeps_less, has_advanced, is_cut, is_as_before, if_further, if_always, if_ok_each, has_no_fault, room_on}
-use Rattle.step_run.proofs.Laws.{keep_law, safe_law, give_law, can_law, next_law, whole_law, few_law, windows_law, budget_law}
+use Rattle.step_run.proofs.Laws.{laws}
 use Rattle.step_run.proofs.running.advance.Goals as goal
 
 pub drive_some-driven-requires-clause-run : goal.drive_some-driven-requires-clause-run
@@ -18,7 +17,7 @@ drive_some-driven-requires-clause-run g c κs within =
     let ca = g.B.Behaviour.carried in
     let r = g.B.Behaviour.reaction in
     let go = c.requires.goes_on in
-    of_run v ca r c.args.names.now c.args.until go.task go.given c.args.core.now go.from go.keeps
+    of_run v ca r (laws v ca r g.met.B.Behaviour.sound g.met.B.Behaviour.modest) c.args.names.now c.args.until go.task go.given c.args.core.now go.from go.keeps
 
 pub drive_some-driven-requires-clause-crossings : goal.drive_some-driven-requires-clause-crossings
 drive_some-driven-requires-clause-crossings g c κs within = lit≤ tt
@@ -32,21 +31,19 @@ write_piece-requires-clause-histories g c κs within =
     let v = g.B.Behaviour.valid in
     let ca = g.B.Behaviour.carried in
     let r = g.B.Behaviour.reaction in
-    let so = g.met.B.Behaviour.sound in
-    let mo = g.met.B.Behaviour.modest in
+    let law = laws v ca r g.met.B.Behaviour.sound g.met.B.Behaviour.modest in
     let core = c.args.core.now in
     let mid = c.drive_some-driven.new.self in
     let driven : AreDriven v ca r core mid = record { steps = c.drive_some-driven.ensures.steps; onward = c.drive_some-driven.ensures.onward } in
     let go = c.requires.goes_on in
-    can_merge v ca r c.args.names.now c.args.until go.task go.given core mid go.from go.keeps driven (keep_law v ca r so mo) (can_law v ca r so mo)
+    can_merge v ca r law c.args.names.now c.args.until go.task go.given core mid go.from go.keeps driven
 
 pub returns-in-Ok-clause-advanced : goal.returns-in-Ok-clause-advanced
 returns-in-Ok-clause-advanced g c = λ task first given under.
     let v = g.B.Behaviour.valid in
     let ca = g.B.Behaviour.carried in
     let r = g.B.Behaviour.reaction in
-    let so = g.met.B.Behaviour.sound in
-    let mo = g.met.B.Behaviour.modest in
+    let law = laws v ca r g.met.B.Behaviour.sound g.met.B.Behaviour.modest in
     let core = c.args.core.now in
     let mid = c.drive_some-driven.new.self in
     let driven : AreDriven v ca r core mid = record { steps = c.drive_some-driven.ensures.steps; onward = c.drive_some-driven.ensures.onward } in
@@ -55,8 +52,7 @@ returns-in-Ok-clause-advanced g c = λ task first given under.
     let now : Output = record { held = g.K.Sink.held c.args.out.now; tally = c.args.tally.now } in
     let then : Output = record { held = g.K.Sink.held c.write_piece.new.sink; tally = c.write_piece.new.tally } in
     subst (λ a. HasAdvanced (r task.plan.behaviour) c.args.names.now c.args.until task c.write_piece.new.core c.write_piece.new.self first then a) (sym outcome_is)
-    (has_advanced v ca r c.args.names.now c.args.until task given core mid c.args.records.now first now under driven
-    (keep_law v ca r so mo) (safe_law v ca r so mo) (next_law v ca r so mo) (give_law v ca r so mo) (whole_law v ca r so mo) (few_law v ca r so mo) (windows_law v ca r so mo) (budget_law v ca r so mo)
+    (has_advanced v ca r law c.args.names.now c.args.until task given core mid c.args.records.now first now under driven
     c.write_piece.new.core c.write_piece.new.self then
     (record { given_up = c.in-Ok.ensures.given_up; at = c.in-Ok.ensures.bound; counted = c.in-Ok.ensures.count; text = c.in-Ok.ensures.text; tallied = c.in-Ok.ensures.tally })
     c.drive_some-driven.result c.drive_some-driven.ensures.finished c.drive_some-driven.ensures.over)
@@ -66,13 +62,12 @@ returns-in-Ok-clause-goes_on g c =
     let v = g.B.Behaviour.valid in
     let ca = g.B.Behaviour.carried in
     let r = g.B.Behaviour.reaction in
-    let so = g.met.B.Behaviour.sound in
-    let mo = g.met.B.Behaviour.modest in
+    let law = laws v ca r g.met.B.Behaviour.sound g.met.B.Behaviour.modest in
     let core = c.args.core.now in
     let mid = c.drive_some-driven.new.self in
     let driven : AreDriven v ca r core mid = record { steps = c.drive_some-driven.ensures.steps; onward = c.drive_some-driven.ensures.onward } in
     let go = c.requires.goes_on in
-    let less = keeps_less v ca r c.args.names.now c.args.until go.task go.given core mid go.from go.keeps driven (keep_law v ca r so mo) (safe_law v ca r so mo) (give_law v ca r so mo) in
+    let less = keeps_less v ca r law c.args.names.now c.args.until go.task go.given core mid go.from go.keeps driven in
     let next : GoesOn v ca r c.args.names.now c.args.until c.write_piece.new.core = record {
       task = go.task;
       given = go.given;
@@ -121,15 +116,14 @@ returns-in-Err-WriteFault-clause-advanced g c = λ task first given under.
     let v = g.B.Behaviour.valid in
     let ca = g.B.Behaviour.carried in
     let r = g.B.Behaviour.reaction in
-    let so = g.met.B.Behaviour.sound in
-    let mo = g.met.B.Behaviour.modest in
+    let law = laws v ca r g.met.B.Behaviour.sound g.met.B.Behaviour.modest in
     let core = c.args.core.now in
     let mid = c.drive_some-driven.new.self in
     let driven : AreDriven v ca r core mid = record { steps = c.drive_some-driven.ensures.steps; onward = c.drive_some-driven.ensures.onward } in
     let now : Output = record { held = g.K.Sink.held c.args.out.now; tally = c.args.tally.now } in
     let then : Output = record { held = g.K.Sink.held c.write_piece.new.sink; tally = c.write_piece.new.tally } in
     let failed : c.write_piece.result ≡ Err WriteFault = cc in
-    is_cut v ca r c.args.names.now c.args.until task given core mid c.args.records.now first now under driven (keep_law v ca r so mo) (safe_law v ca r so mo) (next_law v ca r so mo)
+    is_cut v ca r law c.args.names.now c.args.until task given core mid c.args.records.now first now under driven
     then (c.write_piece.ensures.part failed)
 
 pub returns-in-Err-WriteFault-clause-cause : goal.returns-in-Err-WriteFault-clause-cause
@@ -145,8 +139,7 @@ returns-in-Err-Memory-clause-advanced g c = λ task first given under.
     let v = g.B.Behaviour.valid in
     let ca = g.B.Behaviour.carried in
     let r = g.B.Behaviour.reaction in
-    let so = g.met.B.Behaviour.sound in
-    let mo = g.met.B.Behaviour.modest in
+    let law = laws v ca r g.met.B.Behaviour.sound g.met.B.Behaviour.modest in
     let core = c.args.core.now in
     let mid = c.drive_some-driven.new.self in
     let driven : AreDriven v ca r core mid = record { steps = c.drive_some-driven.ensures.steps; onward = c.drive_some-driven.ensures.onward } in
@@ -154,8 +147,8 @@ returns-in-Err-Memory-clause-advanced g c = λ task first given under.
     let then : Output = record { held = g.K.Sink.held c.write_piece.new.sink; tally = c.write_piece.new.tally } in
     let short : c.write_piece.result ≡ Err NoRoom = cc in
     let same : c.below-in-Err-Memory.result ≡ c.args.records.now.below = c.below-in-Err-Memory.ensures ∙ ap (λ (t : Told). t.below) (c.write_piece.ensures.kept short) in
-    subst (λ f. IsWrittenBelow (r task.plan.behaviour) task.plan c.args.names.now c.args.until task.budget f first.held then.held) (sym same)
-    (is_as_before v ca r c.args.names.now c.args.until task given core mid c.args.records.now first now under driven (keep_law v ca r so mo) (safe_law v ca r so mo) (next_law v ca r so mo)
+    subst (λ f. IsHalted (r task.plan.behaviour) c.args.names.now c.args.until task f first then) (sym same)
+    (is_as_before v ca r law c.args.names.now c.args.until task given core mid c.args.records.now first now under driven
     then (c.write_piece.ensures.nothing short))
 
 pub returns-in-Err-Memory-clause-never_falls : goal.returns-in-Err-Memory-clause-never_falls

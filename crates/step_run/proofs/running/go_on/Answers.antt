@@ -3,6 +3,7 @@ use Rattle.std.proofs.lemmas.List.{length-take}
 use Rattle.step_run.specs.Going.{Output}
 use Rattle.step_run.proofs.Going.{round_low}
 use Rattle.step_run.proofs.Beginning.{caused_later}
+use Rattle.step_run.proofs.Laws.{laws}
 use Rattle.step_run.proofs.running.go_on.Goals as goal
 
 pub loop-tried-init : goal.loop-tried-init
@@ -17,7 +18,7 @@ loop-tried-init g c = record {
 pub loop-tried-smaller : goal.loop-tried-smaller
 loop-tried-smaller g c =
     let go = c.in-Further.ensures.goes_on in
-    let low = round_low g.B.Behaviour.valid g.B.Behaviour.carried g.B.Behaviour.reaction c.args.names.now c.args.order.now.until go.task go.given c.advance.new.core go.from go.keeps in
+    let low = round_low g.B.Behaviour.valid g.B.Behaviour.carried g.B.Behaviour.reaction (laws g.B.Behaviour.valid g.B.Behaviour.carried g.B.Behaviour.reaction g.met.B.Behaviour.sound g.met.B.Behaviour.modest) c.args.names.now c.args.order.now.until go.task go.given c.advance.new.core go.from go.keeps in
     let risen = c.in-Further.ensures.risen in
     omega (arith, low, risen)
 

@@ -1,9 +1,8 @@
-use Rattle.std.proofs.Common.{[], arith, refl, sym, subst, inl, inr}
-use Rattle.sim_base.specs.Outside.{Appends}
+use Rattle.std.proofs.Common.{arith, refl, sym, subst}
 use Rattle.trace_writer.specs.Merging.{HasRoom}
 use Rattle.trace_writer.proofs.Writing.{appends_none}
 use Rattle.step_run.specs.Going.{Task, Output, IsGiven}
-use Rattle.step_run.proofs.Beginning.{first_goes_on, first_under_way, end_begun}
+use Rattle.step_run.proofs.Beginning.{first_goes_on, first_under_way, end_told, none_told}
 use Rattle.step_run.proofs.Laws.{first_law, none_law}
 use Rattle.step_run.proofs.running.run_prepared.Goals as goal
 
@@ -29,55 +28,33 @@ go_on-requires-clause-goes_on g c κs within =
     let re = g.B.Behaviour.reaction in
     let so = g.met.B.Behaviour.sound in
     let mo = g.met.B.Behaviour.modest in
-    let lines = c.args.prepared.now.alignment in
-    let core = c.in-Ok.core in
-    let is_first = c.in-Ok.ensures.first c.args.order.now.threshold c.requires.classes in
-    let task : Task g.row.B.Denot g.row.B-State.Denot g.row.B-Payload.Denot = record { plan = c.args.plan; nets = c.requires.aligned.0; mode = c.requires.aligned.1; lines = lines; threshold = c.args.order.now.threshold; budget = c.args.order.now.budget } in
+    let task : Task g.row.B.Denot g.row.B-State.Denot g.row.B-Payload.Denot = record { plan = c.args.plan; nets = c.requires.aligned.0; mode = c.requires.aligned.1; lines = c.args.prepared.now.alignment; threshold = c.args.order.now.threshold; budget = c.args.order.now.budget } in
     let given : IsGiven (v c.args.plan.behaviour) (ca c.args.plan.behaviour) c.args.names.now c.args.order.now.until task =
     record { fits = c.requires.plan; aligned = c.requires.aligned.2; few = c.requires.most; in_time = c.requires.until; most = c.requires.budget; named = c.requires.named } in
-    first_goes_on v ca re c.args.names.now c.args.order.now.until task given core is_first (first_law v ca re so mo)
+    let is_first = c.in-Ok.ensures.first c.args.order.now.threshold c.requires.classes in
+    first_goes_on v ca re c.args.names.now c.args.order.now.until task given c.in-Ok.core is_first (first_law v ca re so mo)
 
 pub go_on-requires-clause-room : goal.go_on-requires-clause-room
 go_on-requires-clause-room g c κs within =
     let is_first = c.in-Ok.ensures.first c.args.order.now.threshold c.requires.classes in
     subst (λ n. HasRoom c.args.names.now n c.args.prepared.now.records.room) (sym is_first.timelines) c.requires.room
 
-pub returns-in-Ok-clause-ended : goal.returns-in-Ok-clause-ended
-returns-in-Ok-clause-ended g c = inr (λ nets mode aligned.
+pub returns-in-Ok-clause-told : goal.returns-in-Ok-clause-told
+returns-in-Ok-clause-told g c = λ nets mode aligned.
     let v = g.B.Behaviour.valid in
     let ca = g.B.Behaviour.carried in
     let re = g.B.Behaviour.reaction in
     let so = g.met.B.Behaviour.sound in
     let mo = g.met.B.Behaviour.modest in
-    let lines = c.args.prepared.now.alignment in
-    let core = c.in-Ok.core in
-    let is_first = c.in-Ok.ensures.first c.args.order.now.threshold c.requires.classes in
-    let task : Task g.row.B.Denot g.row.B-State.Denot g.row.B-Payload.Denot = record { plan = c.args.plan; nets = nets; mode = mode; lines = lines; threshold = c.args.order.now.threshold; budget = c.args.order.now.budget } in
+    let task : Task g.row.B.Denot g.row.B-State.Denot g.row.B-Payload.Denot = record { plan = c.args.plan; nets = nets; mode = mode; lines = c.args.prepared.now.alignment; threshold = c.args.order.now.threshold; budget = c.args.order.now.budget } in
     let given : IsGiven (v c.args.plan.behaviour) (ca c.args.plan.behaviour) c.args.names.now c.args.order.now.until task =
     record { fits = c.requires.plan; aligned = aligned; few = c.requires.most; in_time = c.requires.until; most = c.requires.budget; named = c.requires.named } in
-    let first : Output = record { held = g.K.Sink.held c.args.out.now; tally = c.args.tally.now } in
-    let ended = c.go_on.ensures.ended task given refl
-    (first_under_way v ca re c.args.names.now c.args.order.now.until task given core is_first (first_law v ca re so mo) (none_law v ca re so mo) c.args.prepared.now.records first c.requires.none.0 c.requires.none.1) in
-    ended)
-
-pub returns-in-Ok-clause-nothing : goal.returns-in-Ok-clause-nothing
-returns-in-Ok-clause-nothing g c =
-    let v = g.B.Behaviour.valid in
-    let ca = g.B.Behaviour.carried in
-    let re = g.B.Behaviour.reaction in
-    let so = g.met.B.Behaviour.sound in
-    let mo = g.met.B.Behaviour.modest in
-    let lines = c.args.prepared.now.alignment in
-    let core = c.in-Ok.core in
     let is_first = c.in-Ok.ensures.first c.args.order.now.threshold c.requires.classes in
-    let task : Task g.row.B.Denot g.row.B-State.Denot g.row.B-Payload.Denot = record { plan = c.args.plan; nets = c.requires.aligned.0; mode = c.requires.aligned.1; lines = lines; threshold = c.args.order.now.threshold; budget = c.args.order.now.budget } in
-    let given : IsGiven (v c.args.plan.behaviour) (ca c.args.plan.behaviour) c.args.names.now c.args.order.now.until task =
-    record { fits = c.requires.plan; aligned = c.requires.aligned.2; few = c.requires.most; in_time = c.requires.until; most = c.requires.budget; named = c.requires.named } in
     let first : Output = record { held = g.K.Sink.held c.args.out.now; tally = c.args.tally.now } in
-    let ended = c.go_on.ensures.ended task given refl
-    (first_under_way v ca re c.args.names.now c.args.order.now.until task given core is_first (first_law v ca re so mo) (none_law v ca re so mo) c.args.prepared.now.records first c.requires.none.0 c.requires.none.1) in
     let now : Output = record { held = g.K.Sink.held c.go_on.new.out; tally = c.go_on.new.tally } in
-    end_begun (re c.args.plan.behaviour) c.args.names.now c.args.order.now.until task first now (Appends [] (g.K.Sink.held c.args.out.now) (g.K.Sink.held c.go_on.new.out)) c.go_on.result ended
+    let ended = c.go_on.ensures.ended task given refl
+    (first_under_way v ca re c.args.names.now c.args.order.now.until task given c.in-Ok.core is_first (first_law v ca re so mo) (none_law v ca re so mo) c.args.prepared.now.records first c.requires.none.0 c.requires.none.1) in
+    end_told (re c.args.plan.behaviour) c.args.names.now c.args.order.now.until task first now aligned c.go_on.result ended
 
 pub returns-in-Ok-clause-cause : goal.returns-in-Ok-clause-cause
 returns-in-Ok-clause-cause g c = c.go_on.ensures.cause
@@ -85,11 +62,12 @@ returns-in-Ok-clause-cause g c = c.go_on.ensures.cause
 pub returns-in-Ok-clause-never_falls : goal.returns-in-Ok-clause-never_falls
 returns-in-Ok-clause-never_falls g c = c.go_on.ensures.never_falls
 
-pub returns-in-Err-clause-ended : goal.returns-in-Err-clause-ended
-returns-in-Err-clause-ended g c = inl refl
-
-pub returns-in-Err-clause-nothing : goal.returns-in-Err-clause-nothing
-returns-in-Err-clause-nothing g c = appends_none (g.K.Sink.held c.args.out.now)
+pub returns-in-Err-clause-told : goal.returns-in-Err-clause-told
+returns-in-Err-clause-told g c = λ nets mode aligned.
+    none_told (g.B.Behaviour.reaction c.args.plan.behaviour) c.args.names.now c.args.order.now.until
+    (record { plan = c.args.plan; nets = nets; mode = mode; lines = c.args.prepared.now.alignment; threshold = c.args.order.now.threshold; budget = c.args.order.now.budget })
+    (record { held = g.K.Sink.held c.args.out.now; tally = c.args.tally.now }) (record { held = g.K.Sink.held c.args.out.now; tally = c.args.tally.now })
+    (appends_none (g.K.Sink.held c.args.out.now))
 
 pub returns-in-Err-clause-never_falls : goal.returns-in-Err-clause-never_falls
 returns-in-Err-clause-never_falls g c = omega arith

@@ -1,13 +1,7 @@
 use Rattle.std.proofs.Common.{◌≡◌, ◌∙◌, ◌<◌, ◌≤◌, ℕ, List, ap, arith}
-use Rattle.ssf_model.specs.Truth.{AreFew}
-use Rattle.alignment.specs.declared.labels.Mode.{Mode}
 use Rattle.alignment.specs.Alignment.{IsAlignment, timeline_count}
-use Rattle.alignment.proofs.Lawful.{alignment_one}
 use Rattle.trace_writer.proofs.Writing.{appends_none}
-use Rattle.core_traces.specs.Ends.{AreWindows, EndsBudget}
-use Rattle.step_run.specs.Endings.{IfFinished, IfOverBudget, IfMemoryBelow, IfTooMany, IfWrite, IsTraced, IsWrittenBelow, IsPartWritten, OnTimelines}
-use Rattle.step_run.specs.Going.{Task, Output, HasEnded}
-use Rattle.step_run.proofs.Beginning.{or_memory, end_trace, end_few, end_windows, end_over, end_budget, end_memory, end_part, end_few_timelines, if_begun, caused, too_many_lines}
+use Rattle.step_run.proofs.Beginning.{none_too_many, if_begun, caused, too_many_lines}
 use Rattle.step_run.proofs.running.run_steps.Goals as goal
 use borrow.Enum.Total.{values_d}
 use Rattle.alignment.specs.contracts.timelines.AlignFault as align_fault
@@ -46,114 +40,39 @@ pub run_prepared-requires-clause-none : goal.run_prepared-requires-clause-none
 run_prepared-requires-clause-none g c κs within = c.in-Ok.ensures.none
 
 pub returns-in-Ok-clause-trace : goal.returns-in-Ok-clause-trace
-returns-in-Ok-clause-trace g c =
-    let r = g.B.Behaviour.reaction c.args.plan.behaviour in
-    let names = c.args.names.now in
-    let until = c.args.order.now.until in
-    let task : Task g.row.B.Denot g.row.B-State.Denot g.row.B-Payload.Denot = record { plan = c.args.plan; nets = c.args.nets.now; mode = c.args.order.now.mode; lines = c.in-Ok.prepared.alignment; threshold = c.args.order.now.threshold; budget = c.args.order.now.budget } in
-    let first : Output = record { held = g.K.Sink.held c.args.out.now; tally = c.args.tally.now } in
-    let now : Output = record { held = g.K.Sink.held c.run_prepared.new.out; tally = c.run_prepared.new.tally } in
-    let end = c.run_prepared.result in
-    let how = c.run_prepared.ensures.ended in
-    let aligned = c.in-Ok.ensures.aligned in
-    or_memory end ((nets : List ℕ) (mode : Mode) → IsAlignment c.args.plan nets mode c.in-Ok.prepared.alignment → HasEnded r names until (record { plan = c.args.plan; nets = nets; mode = mode; lines = c.in-Ok.prepared.alignment; threshold = c.args.order.now.threshold; budget = c.args.order.now.budget }) first now end) (λ e. IfFinished e (λ crossed last. IsTraced r c.args.plan names until c.args.order.now.budget first.held now.held first.tally now.tally)) how tt (λ h. end_trace r names until task first now end (h c.args.nets.now c.args.order.now.mode aligned))
+returns-in-Ok-clause-trace g c = (c.run_prepared.ensures.told c.args.nets.now c.args.order.now.mode c.in-Ok.ensures.aligned).trace
 
 pub returns-in-Ok-clause-few : goal.returns-in-Ok-clause-few
-returns-in-Ok-clause-few g c =
-    let r = g.B.Behaviour.reaction c.args.plan.behaviour in
-    let names = c.args.names.now in
-    let until = c.args.order.now.until in
-    let task : Task g.row.B.Denot g.row.B-State.Denot g.row.B-Payload.Denot = record { plan = c.args.plan; nets = c.args.nets.now; mode = c.args.order.now.mode; lines = c.in-Ok.prepared.alignment; threshold = c.args.order.now.threshold; budget = c.args.order.now.budget } in
-    let first : Output = record { held = g.K.Sink.held c.args.out.now; tally = c.args.tally.now } in
-    let now : Output = record { held = g.K.Sink.held c.run_prepared.new.out; tally = c.run_prepared.new.tally } in
-    let end = c.run_prepared.result in
-    let how = c.run_prepared.ensures.ended in
-    let aligned = c.in-Ok.ensures.aligned in
-    let one : (lines : List ℕ) → IsAlignment c.args.plan c.args.nets.now c.args.order.now.mode lines → c.in-Ok.prepared.alignment ≡ lines = λ lines other. alignment_one c.args.plan c.args.nets.now c.args.order.now.mode c.in-Ok.prepared.alignment lines aligned other in
-    or_memory end ((nets : List ℕ) (mode : Mode) → IsAlignment c.args.plan nets mode c.in-Ok.prepared.alignment → HasEnded r names until (record { plan = c.args.plan; nets = nets; mode = mode; lines = c.in-Ok.prepared.alignment; threshold = c.args.order.now.threshold; budget = c.args.order.now.budget }) first now end) (λ e. IfFinished e (λ crossed last. OnTimelines r c.args.plan c.args.nets.now c.args.order.now.mode c.args.order.now.threshold until c.args.order.now.budget (λ s. AreFew s c.args.order.now.budget))) how tt (λ h. end_few r names until task first now one end (h c.args.nets.now c.args.order.now.mode aligned))
+returns-in-Ok-clause-few g c = (c.run_prepared.ensures.told c.args.nets.now c.args.order.now.mode c.in-Ok.ensures.aligned).few
 
 pub returns-in-Ok-clause-windows : goal.returns-in-Ok-clause-windows
-returns-in-Ok-clause-windows g c =
-    let r = g.B.Behaviour.reaction c.args.plan.behaviour in
-    let names = c.args.names.now in
-    let until = c.args.order.now.until in
-    let task : Task g.row.B.Denot g.row.B-State.Denot g.row.B-Payload.Denot = record { plan = c.args.plan; nets = c.args.nets.now; mode = c.args.order.now.mode; lines = c.in-Ok.prepared.alignment; threshold = c.args.order.now.threshold; budget = c.args.order.now.budget } in
-    let first : Output = record { held = g.K.Sink.held c.args.out.now; tally = c.args.tally.now } in
-    let now : Output = record { held = g.K.Sink.held c.run_prepared.new.out; tally = c.run_prepared.new.tally } in
-    let end = c.run_prepared.result in
-    let how = c.run_prepared.ensures.ended in
-    let aligned = c.in-Ok.ensures.aligned in
-    let one : (lines : List ℕ) → IsAlignment c.args.plan c.args.nets.now c.args.order.now.mode lines → c.in-Ok.prepared.alignment ≡ lines = λ lines other. alignment_one c.args.plan c.args.nets.now c.args.order.now.mode c.in-Ok.prepared.alignment lines aligned other in
-    or_memory end ((nets : List ℕ) (mode : Mode) → IsAlignment c.args.plan nets mode c.in-Ok.prepared.alignment → HasEnded r names until (record { plan = c.args.plan; nets = nets; mode = mode; lines = c.in-Ok.prepared.alignment; threshold = c.args.order.now.threshold; budget = c.args.order.now.budget }) first now end) (λ e. IfFinished e (λ crossed last. OnTimelines r c.args.plan c.args.nets.now c.args.order.now.mode c.args.order.now.threshold until c.args.order.now.budget (λ s. AreWindows s crossed last))) how tt (λ h. end_windows r names until task first now one end (h c.args.nets.now c.args.order.now.mode aligned))
+returns-in-Ok-clause-windows g c = (c.run_prepared.ensures.told c.args.nets.now c.args.order.now.mode c.in-Ok.ensures.aligned).windows
 
 pub returns-in-Ok-clause-over : goal.returns-in-Ok-clause-over
-returns-in-Ok-clause-over g c =
-    let r = g.B.Behaviour.reaction c.args.plan.behaviour in
-    let names = c.args.names.now in
-    let until = c.args.order.now.until in
-    let task : Task g.row.B.Denot g.row.B-State.Denot g.row.B-Payload.Denot = record { plan = c.args.plan; nets = c.args.nets.now; mode = c.args.order.now.mode; lines = c.in-Ok.prepared.alignment; threshold = c.args.order.now.threshold; budget = c.args.order.now.budget } in
-    let first : Output = record { held = g.K.Sink.held c.args.out.now; tally = c.args.tally.now } in
-    let now : Output = record { held = g.K.Sink.held c.run_prepared.new.out; tally = c.run_prepared.new.tally } in
-    let end = c.run_prepared.result in
-    let how = c.run_prepared.ensures.ended in
-    let aligned = c.in-Ok.ensures.aligned in
-    or_memory end ((nets : List ℕ) (mode : Mode) → IsAlignment c.args.plan nets mode c.in-Ok.prepared.alignment → HasEnded r names until (record { plan = c.args.plan; nets = nets; mode = mode; lines = c.in-Ok.prepared.alignment; threshold = c.args.order.now.threshold; budget = c.args.order.now.budget }) first now end) (λ e. IfOverBudget e (λ timeline below. IsWrittenBelow r c.args.plan names until c.args.order.now.budget below first.held now.held)) how tt (λ h. end_over r names until task first now end (h c.args.nets.now c.args.order.now.mode aligned))
+returns-in-Ok-clause-over g c = (c.run_prepared.ensures.told c.args.nets.now c.args.order.now.mode c.in-Ok.ensures.aligned).over
 
 pub returns-in-Ok-clause-budget_ends : goal.returns-in-Ok-clause-budget_ends
-returns-in-Ok-clause-budget_ends g c =
-    let r = g.B.Behaviour.reaction c.args.plan.behaviour in
-    let names = c.args.names.now in
-    let until = c.args.order.now.until in
-    let task : Task g.row.B.Denot g.row.B-State.Denot g.row.B-Payload.Denot = record { plan = c.args.plan; nets = c.args.nets.now; mode = c.args.order.now.mode; lines = c.in-Ok.prepared.alignment; threshold = c.args.order.now.threshold; budget = c.args.order.now.budget } in
-    let first : Output = record { held = g.K.Sink.held c.args.out.now; tally = c.args.tally.now } in
-    let now : Output = record { held = g.K.Sink.held c.run_prepared.new.out; tally = c.run_prepared.new.tally } in
-    let end = c.run_prepared.result in
-    let how = c.run_prepared.ensures.ended in
-    let aligned = c.in-Ok.ensures.aligned in
-    let one : (lines : List ℕ) → IsAlignment c.args.plan c.args.nets.now c.args.order.now.mode lines → c.in-Ok.prepared.alignment ≡ lines = λ lines other. alignment_one c.args.plan c.args.nets.now c.args.order.now.mode c.in-Ok.prepared.alignment lines aligned other in
-    or_memory end ((nets : List ℕ) (mode : Mode) → IsAlignment c.args.plan nets mode c.in-Ok.prepared.alignment → HasEnded r names until (record { plan = c.args.plan; nets = nets; mode = mode; lines = c.in-Ok.prepared.alignment; threshold = c.args.order.now.threshold; budget = c.args.order.now.budget }) first now end) (λ e. IfOverBudget e (λ timeline below. OnTimelines r c.args.plan c.args.nets.now c.args.order.now.mode c.args.order.now.threshold until c.args.order.now.budget (λ s. EndsBudget s c.args.order.now.budget timeline below))) how tt (λ h. end_budget r names until task first now one end (h c.args.nets.now c.args.order.now.mode aligned))
+returns-in-Ok-clause-budget_ends g c = (c.run_prepared.ensures.told c.args.nets.now c.args.order.now.mode c.in-Ok.ensures.aligned).budget_ends
+
+pub returns-in-Ok-clause-stopped : goal.returns-in-Ok-clause-stopped
+returns-in-Ok-clause-stopped g c = (c.run_prepared.ensures.told c.args.nets.now c.args.order.now.mode c.in-Ok.ensures.aligned).stopped
 
 pub returns-in-Ok-clause-memory_below : goal.returns-in-Ok-clause-memory_below
-returns-in-Ok-clause-memory_below g c =
-    let r = g.B.Behaviour.reaction c.args.plan.behaviour in
-    let names = c.args.names.now in
-    let until = c.args.order.now.until in
-    let task : Task g.row.B.Denot g.row.B-State.Denot g.row.B-Payload.Denot = record { plan = c.args.plan; nets = c.args.nets.now; mode = c.args.order.now.mode; lines = c.in-Ok.prepared.alignment; threshold = c.args.order.now.threshold; budget = c.args.order.now.budget } in
-    let first : Output = record { held = g.K.Sink.held c.args.out.now; tally = c.args.tally.now } in
-    let now : Output = record { held = g.K.Sink.held c.run_prepared.new.out; tally = c.run_prepared.new.tally } in
-    let end = c.run_prepared.result in
-    let how = c.run_prepared.ensures.ended in
-    let aligned = c.in-Ok.ensures.aligned in
-    or_memory end ((nets : List ℕ) (mode : Mode) → IsAlignment c.args.plan nets mode c.in-Ok.prepared.alignment → HasEnded r names until (record { plan = c.args.plan; nets = nets; mode = mode; lines = c.in-Ok.prepared.alignment; threshold = c.args.order.now.threshold; budget = c.args.order.now.budget }) first now end) (λ e. IfMemoryBelow e (λ below. IsWrittenBelow r c.args.plan names until c.args.order.now.budget below first.held now.held)) how tt (λ h. end_memory r names until task first now end (h c.args.nets.now c.args.order.now.mode aligned))
+returns-in-Ok-clause-memory_below g c = (c.run_prepared.ensures.told c.args.nets.now c.args.order.now.mode c.in-Ok.ensures.aligned).memory_below
+
+pub returns-in-Ok-clause-in_budget : goal.returns-in-Ok-clause-in_budget
+returns-in-Ok-clause-in_budget g c = (c.run_prepared.ensures.told c.args.nets.now c.args.order.now.mode c.in-Ok.ensures.aligned).in_budget
+
+pub returns-in-Ok-clause-part : goal.returns-in-Ok-clause-part
+returns-in-Ok-clause-part g c = (c.run_prepared.ensures.told c.args.nets.now c.args.order.now.mode c.in-Ok.ensures.aligned).part
 
 pub returns-in-Ok-clause-too_many : goal.returns-in-Ok-clause-too_many
 returns-in-Ok-clause-too_many g c =
-    let r = g.B.Behaviour.reaction c.args.plan.behaviour in
-    let names = c.args.names.now in
-    let until = c.args.order.now.until in
-    let task : Task g.row.B.Denot g.row.B-State.Denot g.row.B-Payload.Denot = record { plan = c.args.plan; nets = c.args.nets.now; mode = c.args.order.now.mode; lines = c.in-Ok.prepared.alignment; threshold = c.args.order.now.threshold; budget = c.args.order.now.budget } in
-    let first : Output = record { held = g.K.Sink.held c.args.out.now; tally = c.args.tally.now } in
-    let now : Output = record { held = g.K.Sink.held c.run_prepared.new.out; tally = c.run_prepared.new.tally } in
-    let end = c.run_prepared.result in
-    let how = c.run_prepared.ensures.ended in
-    let aligned = c.in-Ok.ensures.aligned in
-    or_memory end ((nets : List ℕ) (mode : Mode) → IsAlignment c.args.plan nets mode c.in-Ok.prepared.alignment → HasEnded r names until (record { plan = c.args.plan; nets = nets; mode = mode; lines = c.in-Ok.prepared.alignment; threshold = c.args.order.now.threshold; budget = c.args.order.now.budget }) first now end) (λ e. IfTooMany e (λ count. (lines : List ℕ) × IsAlignment c.args.plan c.args.nets.now c.args.order.now.mode lines × (4096 < timeline_count lines) × (count ≡ timeline_count lines))) how tt (λ h. end_few_timelines r names until task first now (λ count. (lines : List ℕ) × IsAlignment c.args.plan c.args.nets.now c.args.order.now.mode lines × (4096 < timeline_count lines) × (count ≡ timeline_count lines)) end (h c.args.nets.now c.args.order.now.mode aligned))
-
-pub returns-in-Ok-clause-part : goal.returns-in-Ok-clause-part
-returns-in-Ok-clause-part g c =
-    let r = g.B.Behaviour.reaction c.args.plan.behaviour in
-    let names = c.args.names.now in
-    let until = c.args.order.now.until in
-    let task : Task g.row.B.Denot g.row.B-State.Denot g.row.B-Payload.Denot = record { plan = c.args.plan; nets = c.args.nets.now; mode = c.args.order.now.mode; lines = c.in-Ok.prepared.alignment; threshold = c.args.order.now.threshold; budget = c.args.order.now.budget } in
-    let first : Output = record { held = g.K.Sink.held c.args.out.now; tally = c.args.tally.now } in
-    let now : Output = record { held = g.K.Sink.held c.run_prepared.new.out; tally = c.run_prepared.new.tally } in
-    let end = c.run_prepared.result in
-    let how = c.run_prepared.ensures.ended in
-    let aligned = c.in-Ok.ensures.aligned in
-    or_memory end ((nets : List ℕ) (mode : Mode) → IsAlignment c.args.plan nets mode c.in-Ok.prepared.alignment → HasEnded r names until (record { plan = c.args.plan; nets = nets; mode = mode; lines = c.in-Ok.prepared.alignment; threshold = c.args.order.now.threshold; budget = c.args.order.now.budget }) first now end) (λ e. IfWrite e (IsPartWritten r c.args.plan names until c.args.order.now.budget first.held now.held)) how tt (λ h. end_part r names until task first now end (h c.args.nets.now c.args.order.now.mode aligned))
+    none_too_many (λ count. (lines : List ℕ) × IsAlignment c.args.plan c.args.nets.now c.args.order.now.mode lines × (4096 < timeline_count lines) × (count ≡ timeline_count lines)) c.run_prepared.result
+    (c.run_prepared.ensures.told c.args.nets.now c.args.order.now.mode c.in-Ok.ensures.aligned).few_timelines
 
 pub returns-in-Ok-clause-nothing : goal.returns-in-Ok-clause-nothing
-returns-in-Ok-clause-nothing g c = c.run_prepared.ensures.nothing
+returns-in-Ok-clause-nothing g c = (c.run_prepared.ensures.told c.args.nets.now c.args.order.now.mode c.in-Ok.ensures.aligned).nothing
 
 pub returns-in-Ok-clause-begun : goal.returns-in-Ok-clause-begun
 returns-in-Ok-clause-begun g c =

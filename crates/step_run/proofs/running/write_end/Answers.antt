@@ -1,7 +1,7 @@
-use Rattle.std.proofs.Common.{◌≡◌, refl, sym, ◌∙◌, subst, Err}
+use Rattle.std.proofs.Common.{◌≡◌, refl, sym, ap, ◌∙◌, subst, Err}
 use Rattle.trace_writer.specs.declared.merging.MergeFault.TheVariants.{WriteFault, Memory as NoRoom}
-use Rattle.step_run.specs.Endings.{IsWrittenBelow}
-use Rattle.step_run.specs.Going.{Output, IsFinished}
+use Rattle.step_run.specs.Telling.{Told}
+use Rattle.step_run.specs.Going.{Output, IsHalted, IsFinished}
 use Rattle.step_run.proofs.Ending.{ends_finished, ends_cut, ends_short}
 use Rattle.step_run.proofs.Laws.{count_law}
 use Rattle.step_run.proofs.running.write_end.Goals as goal
@@ -41,7 +41,7 @@ returns-in-Err-Memory-clause-ended g c = λ task names first tally given started
     let short : c.write_end.result ≡ Err NoRoom = cc in
     let r = g.B.Behaviour.reaction in
     let then : Output = record { held = g.K.Sink.held c.write_end.new.sink; tally = tally } in
-    subst (λ f. IsWrittenBelow (r task.plan.behaviour) task.plan names c.args.until task.budget f first.held then.held) (sym (c.below.ensures ∙ c.write_end.ensures.below))
+    subst (λ f. IsHalted (r task.plan.behaviour) names c.args.until task f first then) (sym (c.below.ensures ∙ ap (λ (t : Told). t.below) c.write_end.ensures.kept))
     (ends_short g.B.Behaviour.valid g.B.Behaviour.carried r names c.args.until task given c.args.records.now c.args.core.now.barrier.round c.args.core.now.barrier.window first
     (record { held = g.K.Sink.held c.args.out.now; tally = tally }) whole c.args.before started (count_law g.B.Behaviour.valid g.B.Behaviour.carried r g.met.B.Behaviour.sound g.met.B.Behaviour.modest)
     then (c.write_end.ensures.nothing short))
