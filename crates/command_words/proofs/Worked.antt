@@ -86,10 +86,6 @@ not_landed : asked_of_words (codes "run" ∷ codes "--until" ∷ codes "1" ∷ c
 unfolding command_of_words asked_of_words command_in_table all_landed stand_once have_values files_in value_of is_schedule parts
 not_landed = refl
 
-no_report_of_a_step : asked_of_words (codes "step" ∷ codes "--until" ∷ codes "1" ∷ codes "--report" ∷ codes "m.dml" ∷ []) ≡ None
-unfolding command_of_words asked_of_words command_in_table all_landed stand_once have_values files_in value_of is_schedule parts
-no_report_of_a_step = refl
-
 a_run : command_in_table (codes "run" ∷ codes "--until" ∷ codes "1" ∷ codes "--workers" ∷ codes "64" ∷ codes "m.dml" ∷ []) ≡ Some Run
 unfolding command_of_words asked_of_words command_in_table all_landed stand_once have_values files_in value_of is_schedule parts
 a_run = refl
@@ -98,9 +94,24 @@ too_many_workers : command_in_table (codes "run" ∷ codes "--until" ∷ codes "
 unfolding command_of_words asked_of_words command_in_table all_landed stand_once have_values files_in value_of is_schedule parts
 too_many_workers = refl
 
-a_step : command_in_table (codes "step" ∷ codes "--until" ∷ codes "5" ∷ codes "--align" ∷ codes "host" ∷ codes "--threshold" ∷ codes "5" ∷ codes "--schedule" ∷ codes "r0,r1,r2,c,e1,x1,p1.4,t2,e2,x2" ∷ codes "m.dml" ∷ []) ≡ Some Step
-unfolding command_of_words asked_of_words command_in_table all_landed stand_once have_values files_in value_of is_schedule parts
+a_step : asked_of_words (codes "step" ∷ codes "--until" ∷ codes "5" ∷ codes "--align" ∷ codes "host" ∷ codes "--threshold" ∷ codes "5" ∷ codes "--schedule" ∷ codes "r0,c,p1.4" ∷ codes "m.dml" ∷ [])
+    ≡ Some (record { command = commands.Step 5 1000000000 align.Host 5; schedule = Some (codes "r0,c,p1.4"); report = false; files = codes "m.dml" ∷ [] })
+unfolding asked_of_words command_of_words command_in_table all_landed stand_once have_values files_in value_of is_schedule parts
 a_step = refl
+
+a_reported_step : asked_of_words (codes "step" ∷ codes "--until" ∷ codes "1" ∷ codes "--report" ∷ codes "m.dml" ∷ [])
+    ≡ Some (record { command = commands.Step 1 1000000000 align.Net 0; schedule = None; report = true; files = codes "m.dml" ∷ [] })
+unfolding asked_of_words command_of_words command_in_table all_landed stand_once have_values files_in value_of is_schedule parts
+a_reported_step = refl
+
+a_step_in_parts : asked_of_words (codes "step" ∷ codes "--align" ∷ codes "4096" ∷ codes "--budget" ∷ codes "3" ∷ codes "--until" ∷ codes "1" ∷ codes "m.dml" ∷ [])
+    ≡ Some (record { command = commands.Step 1 3 (align.Parts 4096) 0; schedule = None; report = false; files = codes "m.dml" ∷ [] })
+unfolding asked_of_words command_of_words command_in_table all_landed stand_once have_values files_in value_of is_schedule parts
+a_step_in_parts = refl
+
+no_step_of_a_schedule : asked_of_words (codes "step" ∷ codes "--until" ∷ codes "1" ∷ codes "--schedule" ∷ codes "x" ∷ codes "m.dml" ∷ []) ≡ None
+unfolding asked_of_words command_of_words command_in_table all_landed stand_once have_values files_in value_of is_schedule parts
+no_step_of_a_schedule = refl
 
 a_campus : asked_of_words (codes "gen" ∷ codes "--size" ∷ codes "1" ∷ codes "--seed" ∷ codes "7" ∷ []) ≡ Some (record { command = commands.Gen 7 1; schedule = None; report = false; files = [] })
 unfolding command_of_words asked_of_words command_in_table all_landed stand_once have_values files_in value_of is_schedule parts

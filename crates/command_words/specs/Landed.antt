@@ -4,8 +4,8 @@ use Rattle.command_words.specs.Table.{Text, is_one_of}
 
 abbrev pub landed : List Text
 landed =
-    codes "dml" ∷ codes "check" ∷ codes "plan" ∷ codes "seq" ∷ codes "gen"
-    ∷ codes "--flat" ∷ codes "--until" ∷ codes "--budget" ∷ codes "--report" ∷ codes "--seed" ∷ codes "--size" ∷ []
+    codes "dml" ∷ codes "check" ∷ codes "plan" ∷ codes "seq" ∷ codes "step" ∷ codes "gen"
+    ∷ codes "--flat" ∷ codes "--until" ∷ codes "--align" ∷ codes "--threshold" ∷ codes "--budget" ∷ codes "--schedule" ∷ codes "--report" ∷ codes "--seed" ∷ codes "--size" ∷ []
 
 abbrev pub has_landed : Text → Bool
 has_landed word = is_one_of landed word

@@ -1,7 +1,8 @@
 //! What words ask.
-ghost use Rattle.std.specs.Prelude.{◌≡◌, ◌≤◌, vec_len, length, Bool, map, option_map, string_bytes, codes, [], drop, unwrap_or, IfOk, IsErrOf, IsErrAnd, None, Some};
+ghost use Rattle.std.specs.Prelude.{◌≡◌, ◌≤◌, ℕ, List, true, vec_len, length, Bool, map, option_map, string_bytes, codes, [], drop, unwrap_or, IfOk, IsErrOf, IsErrAnd, None, Some};
 ghost use Rattle.clap.specs.Words.{first_value, found_of, matched_of, one_text, raw_values};
 ghost use Rattle.command_words.specs.Parsed.{flag_text};
+ghost use Rattle.command_words.specs.Schedule.{is_schedule};
 ghost use Rattle.command_words.specs.Table.{MostFiles};
 ghost use Rattle.command_words.specs.Words.{AllFit, IsInRange, IsLanded, asked_of_words, command_by};
 
@@ -57,6 +58,7 @@ pub fn read_words(alloc: Global, words: &[String]) -> Result<Request, WordsFault
     ensures refused { asked_of_words (map string_bytes words.now) ≡ None → IsErrAnd result (λ fault. fault ≡ WordsFault.Words) }
     ensures range { IfOk result (λ r. IsInRange r.command) }
     ensures landed { IfOk result (λ r. IsLanded r.command) }
+    ensures scheduled { IfOk result (λ r. (word : List ℕ) → option_map string_bytes r.schedule ≡ Some word → is_schedule word ≡ true) }
     ensures files { IfOk result (λ r. vec_len r.files ≤ MostFiles) }
 {
     let Some(name) = command_of(words) else {

@@ -1,5 +1,5 @@
 //! What words ask, in a table.
-use command_words::{Command, WordsFault, read_words};
+use command_words::{Align, Command, WordsFault, read_words};
 use std::alloc::Global;
 use std::process::Abort;
 use std::test::Fail;
@@ -19,13 +19,20 @@ const TEN: Option<Command> = Some(Command::Seq {
 
 const CAMPUS: Option<Command> = Some(Command::Gen { seed: 7, size: 10 });
 
+const STEP: Option<Command> = Some(Command::Step {
+    until: 10,
+    budget: 1_000_000_000,
+    align: Align::Net,
+    threshold: 0,
+});
+
 const FEW: Option<Command> = Some(Command::Seq {
     until: 10,
     budget: 3,
 });
 
 /// Words in the table, and words that are not.
-const CASES: [Case; 55] = [
+const CASES: [Case; 60] = [
     Case {
         words: "seq --until 10 m.dml",
         asked: TEN,
@@ -296,6 +303,36 @@ const CASES: [Case; 55] = [
     },
     Case {
         words: "step --until 10 --report m.dml",
+        asked: STEP,
+        files: "m.dml ",
+    },
+    Case {
+        words: "step a --schedule x0,p0.4,c --align 3 --until 10 --threshold 4 b --budget 3",
+        asked: Some(Command::Step {
+            until: 10,
+            budget: 3,
+            align: Align::Parts(3),
+            threshold: 4,
+        }),
+        files: "a b ",
+    },
+    Case {
+        words: "step --until 10 --schedule x m.dml",
+        asked: None,
+        files: "",
+    },
+    Case {
+        words: "step --until 10 --align 4097 m.dml",
+        asked: None,
+        files: "",
+    },
+    Case {
+        words: "step --until 10 --workers 1 m.dml",
+        asked: None,
+        files: "",
+    },
+    Case {
+        words: "run --until 10 m.dml",
         asked: None,
         files: "",
     },
@@ -327,6 +364,17 @@ fn joined(alloc: Global, files: &[String]) -> Result<String, Fail> {
     Ok(text)
 }
 
+/// The word behind this option, where the option is among these words.
+fn value_behind<'a>(words: &'a str, option: &str) -> Option<&'a str> {
+    let mut others = words.split(' ');
+    while let Some(word) = others.next() {
+        if word == option {
+            return others.next();
+        }
+    }
+    None
+}
+
 fn check_case(rt: &(impl Abort + AllocGlobal), case: &Case) -> Result<(), Fail> {
     let alloc = rt.alloc();
     let words = split_words(alloc, case.words)?;
@@ -335,7 +383,13 @@ fn check_case(rt: &(impl Abort + AllocGlobal), case: &Case) -> Result<(), Fail> 
             assert_eq!(rt; Some(request.command), case.asked, "{}", case.words);
             let reports = case.words.split(' ').any(|word| word == "--report");
             assert_eq!(rt; request.report, reports, "{}", case.words);
-            assert!(rt; request.schedule.is_none());
+            let schedule = request.schedule.as_ref().map(|word| word.as_str());
+            assert_eq!(rt;
+                schedule,
+                value_behind(case.words, "--schedule"),
+                "{}",
+                case.words
+            );
             let files = joined(alloc, request.files.as_slice())?;
             assert_eq!(rt; files.as_str(), case.files, "{}", case.words);
         }

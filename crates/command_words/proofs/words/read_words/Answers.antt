@@ -1,4 +1,4 @@
-use Rattle.std.proofs.Common.{◌∙◌, ◌≤◌, ap, sym, subst, arith, codes, drop, length, map, option_map, string_bytes, Bool, false, List, Option}
+use Rattle.std.proofs.Common.{◌∙◌, ◌≤◌, ap, refl, sym, subst, arith, codes, drop, length, map, option_map, string_bytes, Bool, false, List, Option}
 use Rattle.std.proofs.lemmas.Result.{IfOk-weaker}
 use Rattle.clap.specs.Words.{first_value, found_of}
 use Rattle.clap.specs.declared.parser.matches.Found.{Found}
@@ -47,6 +47,12 @@ returns-clause-landed c =
     (λ (r : Request) command. landed_by c.in-Some.name value flat r.command (command flat m.flat)
     (command_landed words c.in-Some.name (sym c.command_of.ensures.command ∙ c.in-Some.is) c.in-Some.ensures.in_table))
     c.request_of.ensures.command
+
+pub returns-clause-scheduled : goal.returns-clause-scheduled
+returns-clause-scheduled c =
+    let f : Found = found_of c.in_ok-matches.matches in
+    let fit : AllFit (λ option. first_value f (drop 2 option)) = matched_fit c.in-Some.name (map string_bytes c.args.words.now) c.in-Some.ensures.in_table f c.in_ok-matches.ensures.matched in
+    IfOk-weaker c.request_of.result _ _ (λ (r : Request) schedule word is. fit (codes "--schedule") refl word (sym schedule ∙ is)) c.request_of.ensures.schedule
 
 pub returns-clause-files : goal.returns-clause-files
 returns-clause-files c =
