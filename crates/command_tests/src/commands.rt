@@ -12,6 +12,13 @@ const TRACE: &[u8] = b"E 0 0 0 0 0\nE 0 0 1 0 1\nE 5 0 2 0 1\nE 8 0 3 0 0\nend 1
 
 const REPORT: &[u8] = b"events 4\nlast 8\nsent 0 0\ndropped 0 0\nudp 0 0\ntcp 0\n";
 
+const LONG_REPORT: &[u8] =
+    b"events 4\nlast 8\nsent 0 0\ndropped 0 0\nudp 0 0\ntcp 0\nwindows 2 10\n";
+
+const SEQ_REPORT: &str = "seq --until 10 --report m.dml";
+
+const STEP_REPORT: &str = "step --until 10 --align host --threshold 4 --report m.dml";
+
 const BASE: &str =
     "base [ nodes 2 token 0 hop [ from 0 to 1 delay 5 ] hop [ from 1 to 0 delay 3 ] ]";
 
@@ -88,11 +95,52 @@ fn failing_sinks_keep_a_part(rt: HostRuntime) -> Result<(), Fail> {
     Ok(())
 }
 
-/// Runs `seq --report` with an `err` that fails at its write number `call`, and looks that the whole
-/// trace stands on `out` and a part of the report on `err`.
-fn check_failing_report(rt: &(impl Abort + AllocGlobal), call: u64) -> Result<(), Fail> {
+/// Runs `step --report` on two timelines with this schedule, and an `out` that fails at its write number `call`, and looks that
+/// it holds a part of the trace, of at least this length.
+fn check_failing_steps(
+    rt: &(impl Abort + AllocGlobal),
+    schedule: &str,
+    call: u64,
+) -> Result<usize, Fail> {
     let alloc = rt.alloc();
-    let words = split_words(alloc, "seq --until 10 --report m.dml")?;
+    let text = format!(in alloc;
+        "step --until 10 --align host --threshold 4 --report{schedule} m.dml"
+    )?;
+    let words = split_words(alloc, text.as_str())?;
+    let mut library = library_of(alloc, TWO)?;
+    let mut out = MemorySink::new(alloc, 9, 4096, vec![in alloc; call]?)?;
+    let mut err = MemorySink::new(alloc, 9, 4096, Vec::new(alloc))?;
+    let status = offline(alloc, words.as_slice(), &mut library, &mut out, &mut err);
+    assert_eq!(rt; status, 7);
+    assert_eq!(rt; out.faults(), 1);
+    assert!(rt; TRACE.starts_with(out.bytes()));
+    assert!(rt; err.bytes() == b"write\n".as_slice());
+    Ok(out.bytes().len())
+}
+
+#[test]
+fn failing_sinks_keep_a_part_of_a_run_by_steps(rt: HostRuntime) -> Result<(), Fail> {
+    for schedule in &["", " --schedule x0,r1,r0,c,x1,x5,c"] {
+        let mut before = 0usize;
+        for call in 0..7u64 {
+            let held = check_failing_steps(&rt, schedule, call)?;
+            assert_eq!(&rt; held > before, call > 0);
+            before = held;
+        }
+    }
+    Ok(())
+}
+
+/// Runs the command with an `err` that fails at its write number `call`, and looks that the whole
+/// trace stands on `out` and a part of what is told on `err`.
+fn check_failing_report(
+    rt: &(impl Abort + AllocGlobal),
+    words: &str,
+    told: &[u8],
+    call: u64,
+) -> Result<usize, Fail> {
+    let alloc = rt.alloc();
+    let words = split_words(alloc, words)?;
     let mut library = library_of(alloc, TWO)?;
     let mut out = MemorySink::new(alloc, 64, 4096, Vec::new(alloc))?;
     let mut err = MemorySink::new(alloc, 9, 4096, vec![in alloc; call]?)?;
@@ -101,17 +149,28 @@ fn check_failing_report(rt: &(impl Abort + AllocGlobal), call: u64) -> Result<()
     assert_eq!(rt; out.faults(), 0);
     assert_eq!(rt; err.faults(), 1);
     assert!(rt; out.bytes() == TRACE);
-    assert!(rt; REPORT.starts_with(err.bytes()));
-    assert_eq!(rt; err.bytes().len() as u64, call.wrapping_mul(9));
-    Ok(())
+    assert!(rt; told.starts_with(err.bytes()));
+    Ok(err.bytes().len())
 }
 
 #[test]
 fn failing_reports_keep_the_trace(rt: HostRuntime) -> Result<(), Fail> {
     for call in 0..6u64 {
-        check_failing_report(&rt, call)?;
+        let held = check_failing_report(&rt, SEQ_REPORT, REPORT, call)?;
+        assert_eq!(&rt; held as u64, call.wrapping_mul(9));
     }
-    check_text(&rt, "seq --until 10 --report m.dml", TWO, 0, TRACE, REPORT)
+    check_text(&rt, SEQ_REPORT, TWO, 0, TRACE, REPORT)
+}
+
+#[test]
+fn failing_reports_of_steps_keep_the_trace(rt: HostRuntime) -> Result<(), Fail> {
+    let mut before = 0usize;
+    for call in 0..9u64 {
+        let held = check_failing_report(&rt, STEP_REPORT, LONG_REPORT, call)?;
+        assert_eq!(&rt; held > before, call > 0);
+        before = held;
+    }
+    check_text(&rt, STEP_REPORT, TWO, 0, TRACE, LONG_REPORT)
 }
 
 /// Runs the command over a library that fails at its call number `call`, and looks at the line of
@@ -144,6 +203,7 @@ fn failing_libraries_name_the_file_at_hand(rt: HostRuntime) -> Result<(), Fail> 
         "check m.dml base.dml",
         "plan m.dml base.dml",
         "seq --until 10 m.dml base.dml",
+        "step --until 10 m.dml base.dml",
     ] {
         for call in 0..3u64 {
             check_failing_library(&rt, words, call, 3, b"read m.dml\n")?;

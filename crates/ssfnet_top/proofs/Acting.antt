@@ -1,34 +1,133 @@
 -- What a command did, by its request.
-use Rattle.std.proofs.Common.{ℕ, ◌≡◌, sym, subst, List, [], map, String, string_bytes, Option, Result, IfErr}
+use Rattle.std.proofs.Common.{ℕ, ◌≡◌, ◌⊎◌, inl, inr, ◌++◌, ◌∙◌, ap, sym, subst, List, [], map, String, string_bytes, Bool, true, false, Option, Result, Ok, Err, IfErr}
 use Rattle.std.specs.declared.alloc.Global.{Global}
+use Rattle.dml_tree.specs.declared.tree.Attribute.{Attribute}
 use Rattle.dml_tree.specs.Attributes.{Attributes}
+use Rattle.net_graph.specs.declared.rows.Network.{Network}
+use Rattle.net_graph.specs.Reads.{Read}
+use Rattle.net_graph.specs.Keys.{has_net}
+use Rattle.dml_tree.specs.TreeView.{attributes}
+use Rattle.net_build.specs.declared.built.Built.{Built}
+use Rattle.net_build.specs.RingModel.{ring_plan_of}
+use Rattle.ring_model.specs.declared.ring.Ring.{Ring}
+use Rattle.ring_model.specs.declared.ring.RingState.{RingState}
+use Rattle.ring_model.specs.declared.ring.RingPayload.{RingPayload}
+use Rattle.command_words.specs.declared.command.Align.{Align}
 use Rattle.command_words.specs.declared.command.Command.{Command}
+use Rattle.command_words.specs.declared.command.Command.TheVariants as commands
 use Rattle.command_words.specs.declared.words.Request.{Request}
 use Rattle.ssfnet_top.specs.declared.refusal.Refusal.{Refusal}
-use Rattle.ssfnet_top.specs.Outcome.{asked_of, IsCommandDue}
-use Rattle.ssfnet_top.specs.Ending.{Answers, IsOfCommand}
+use Rattle.ssfnet_top.specs.declared.refusal.Refusal.TheVariants as refusal
+use Rattle.ssfnet_top.specs.declared.running.Told.{Told}
+use Rattle.ssfnet_top.specs.Outcome.{asked_of, planned_network, by_list, on_timelines, IsNetworkRun, IsRingRun, IsRunIn, IsModelRun, IsCommandDue, IsCommandMidway}
+use Rattle.ssfnet_top.specs.Outcome.Course.{Ended, Midway}
+use Rattle.ssfnet_top.specs.Ending.{Answers, AnswersMidway, IsOfCommand, IsOfModel, IsOfRun, IsUntold, told_text, windows_text}
+
+pub untold_text : (told : Told) → IsUntold told → told_text told ≡ []
+untold_text told none = ap (λ (t : List ℕ). t ++ windows_text told.windows) none.0 ∙ ap (λ (w : Option (ℕ × ℕ)). [] ++ windows_text w) none.1
+
+-- a run by one event list has no middle
+no_network : (until budget : ℕ) (wanted : Bool) (read : Read Network) (below : ℕ) (text : List ℕ) → IsNetworkRun (by_list until budget wanted) read (Midway below text) → ⊥
+no_network until budget wanted (Ok network) below text run = run.2
+no_network until budget wanted (Err fault) below text run = run
+
+no_ring : (until budget : ℕ) (wanted : Bool) (read : Read (Built Ring RingState RingPayload)) (below : ℕ) (text : List ℕ) → IsRingRun (by_list until budget wanted) read (Midway below text) → ⊥
+no_ring until budget wanted (Ok built) below text run = run
+no_ring until budget wanted (Err fault) below text run = run
+
+no_run : (until budget : ℕ) (wanted net : Bool) (root : List Attribute) (below : ℕ) (text : List ℕ) → IsRunIn (by_list until budget wanted) net root (Midway below text) → ⊥
+no_run until budget wanted true root below text run = no_network until budget wanted (planned_network root) below text run
+no_run until budget wanted false root below text run = no_ring until budget wanted (ring_plan_of root) below text run
+
+no_middle : (until budget : ℕ) (wanted : Bool) (tree : Result Attributes Refusal) (below : ℕ) (text : List ℕ) → IsModelRun (by_list until budget wanted) tree (Midway below text) → ⊥
+no_middle until budget wanted (Ok tree) below text run = no_run until budget wanted (has_net (attributes tree)) (attributes tree) below text run
+no_middle until budget wanted (Err r) below text run = run
+
+-- what is so of each refusal of a run is so of the command
+if_err_each : {T : Type 0} (r : Result T Refusal) (P Q : Refusal → Type 0) → ((x : Refusal) → P x → Q x) → IfErr r P → IfErr r Q
+if_err_each (Ok x) P Q f h = tt
+if_err_each (Err e) P Q f h = f e h
+
+of_list : (until budget : ℕ) (wanted : Bool) (names : List (List ℕ)) (r : Refusal) → IsOfModel names r ⊎ IsOfRun (by_list until budget wanted) r → IsOfCommand (commands.Seq until budget) names r
+of_list until budget wanted names refusal.Memory h = tt
+of_list until budget wanted names refusal.Words (inl h) = h
+of_list until budget wanted names refusal.Words (inr h) = h
+of_list until budget wanted names (refusal.Read file) (inl h) = h
+of_list until budget wanted names (refusal.Read file) (inr h) = h
+of_list until budget wanted names (refusal.Dml file fault) (inl h) = h
+of_list until budget wanted names (refusal.Dml file fault) (inr h) = h
+of_list until budget wanted names (refusal.Path file fault) (inl h) = (tt, h)
+of_list until budget wanted names (refusal.Path file fault) (inr h) = absurd h
+of_list until budget wanted names (refusal.Shape fault) (inl h) = (tt, h)
+of_list until budget wanted names (refusal.Shape fault) (inr h) = (tt, h)
+of_list until budget wanted names refusal.Write h = tt
+of_list until budget wanted names (refusal.Budget most) (inl h) = absurd h
+of_list until budget wanted names (refusal.Budget most) (inr h) = h
+of_list until budget wanted names (refusal.TimelineBudget timeline most below) (inl h) = h
+of_list until budget wanted names (refusal.TimelineBudget timeline most below) (inr h) = h
+of_list until budget wanted names (refusal.MemoryBelow below) (inl h) = h
+of_list until budget wanted names (refusal.MemoryBelow below) (inr h) = h
+
+of_steps : (until budget : ℕ) (wanted : Bool) (aligned : Align) (threshold : ℕ) (names : List (List ℕ)) (r : Refusal) → IsOfModel names r ⊎ IsOfRun (on_timelines until budget wanted aligned threshold) r
+    → IsOfCommand (commands.Step until budget aligned threshold) names r
+of_steps until budget wanted aligned threshold names refusal.Memory h = tt
+of_steps until budget wanted aligned threshold names refusal.Words (inl h) = h
+of_steps until budget wanted aligned threshold names refusal.Words (inr h) = h
+of_steps until budget wanted aligned threshold names (refusal.Read file) (inl h) = h
+of_steps until budget wanted aligned threshold names (refusal.Read file) (inr h) = h
+of_steps until budget wanted aligned threshold names (refusal.Dml file fault) (inl h) = h
+of_steps until budget wanted aligned threshold names (refusal.Dml file fault) (inr h) = h
+of_steps until budget wanted aligned threshold names (refusal.Path file fault) (inl h) = (tt, h)
+of_steps until budget wanted aligned threshold names (refusal.Path file fault) (inr h) = absurd h
+of_steps until budget wanted aligned threshold names (refusal.Shape fault) (inl h) = (tt, h)
+of_steps until budget wanted aligned threshold names (refusal.Shape fault) (inr h) = (tt, h)
+of_steps until budget wanted aligned threshold names refusal.Write h = tt
+of_steps until budget wanted aligned threshold names (refusal.Budget most) (inl h) = h
+of_steps until budget wanted aligned threshold names (refusal.Budget most) (inr h) = h
+of_steps until budget wanted aligned threshold names (refusal.TimelineBudget timeline most below) (inl h) = absurd h
+of_steps until budget wanted aligned threshold names (refusal.TimelineBudget timeline most below) (inr h) = h
+of_steps until budget wanted aligned threshold names (refusal.MemoryBelow below) (inl h) = absurd h
+of_steps until budget wanted aligned threshold names (refusal.MemoryBelow below) (inr h) = tt
 
 -- `names` are those of the request's files, and `here` is its command
 module _ (request : Request) (here : Command) (names : List (String Global)) (is : request.command ≡ here) (same : names ≡ request.files.items)
     (answer : Result (Unit {0}) Refusal) where
-  pub acted : (tree : Attributes) (report : List ℕ) (faults faults' : ℕ) (held held' : Option (List ℕ))
-      → Answers (IsCommandDue here (record (asked_of request) { files = map string_bytes names }) tree) report answer faults faults' held held'
-      → Answers (IsCommandDue request.command (asked_of request) tree) report answer faults faults' held held'
-  acted tree report faults faults' held held' answers =
-      let P : List (String Global) → Type 0 = λ l. Answers (IsCommandDue here (record (asked_of request) { files = map string_bytes l }) tree) report answer faults faults' held held' in
-      let Q : Command → Type 0 = λ command. Answers (IsCommandDue command (asked_of request) tree) report answer faults faults' held held' in
-      subst Q (sym is) (subst P same answers)
+  module _ (tree : Attributes) (report : List ℕ) (faults faults' : ℕ) (held held' : Option (List ℕ)) where
+    abbrev Acts : Command → List (List ℕ) → Type 0
+    Acts command files =
+        Answers (IsCommandDue command (record (asked_of request) { files = files }) tree) report answer faults faults' held held'
+        ⊎ AnswersMidway (IsCommandMidway command (record (asked_of request) { files = files }) tree) answer faults faults' held held'
 
-  -- nothing is told on `err`
-  pub acted_quietly : (tree : Attributes) (report : List ℕ) (faults faults' : ℕ) (held held' : Option (List ℕ)) → report ≡ []
-      → Answers (IsCommandDue here (record (asked_of request) { files = map string_bytes names }) tree) [] answer faults faults' held held'
-      → Answers (IsCommandDue request.command (asked_of request) tree) report answer faults faults' held held'
-  acted_quietly tree report faults faults' held held' empty answers =
-      let P : List ℕ → Type 0 = λ text. Answers (IsCommandDue request.command (asked_of request) tree) text answer faults faults' held held' in
-      subst P (sym empty) (acted tree [] faults faults' held held' answers)
+    pub acted : Acts here (map string_bytes names) → Acts request.command (map string_bytes request.files.items)
+    acted answers =
+        let P : List (String Global) → Type 0 = λ l. Acts here (map string_bytes l) in
+        subst (λ (c : Command). Acts c (map string_bytes request.files.items)) (sym is) (subst P same answers)
+
+    -- nothing is told on `err`
+    pub acted_quietly : report ≡ [] → Answers (IsCommandDue here (record (asked_of request) { files = map string_bytes names }) tree) [] answer faults faults' held held'
+        → Acts request.command (map string_bytes request.files.items)
+    acted_quietly empty answers =
+        acted (inl (subst (λ (text : List ℕ). Answers (IsCommandDue here (record (asked_of request) { files = map string_bytes names }) tree) text answer faults faults' held held') (sym empty) answers))
 
   pub caused : IfErr answer (λ r. IsOfCommand here (map string_bytes names) r) → IfErr answer (λ r. IsOfCommand request.command (map string_bytes request.files.items) r)
   caused cause =
       let P : List (String Global) → Type 0 = λ l. IfErr answer (λ r. IsOfCommand here (map string_bytes l) r) in
       let Q : Command → Type 0 = λ command. IfErr answer (λ r. IsOfCommand command (map string_bytes request.files.items) r) in
       subst Q (sym is) (subst P same cause)
+
+-- a run by one event list
+pub listed : (until budget : ℕ) (wanted : Bool) (tree : Result Attributes Refusal) (report : List ℕ) (answer : Result (Unit {0}) Refusal) (faults faults' : ℕ) (held held' : Option (List ℕ))
+    → Answers (λ due. IsModelRun (by_list until budget wanted) tree (Ended due)) report answer faults faults' held held'
+    ⊎ AnswersMidway (λ below text. IsModelRun (by_list until budget wanted) tree (Midway below text)) answer faults faults' held held'
+    → Answers (λ due. IsModelRun (by_list until budget wanted) tree (Ended due)) report answer faults faults' held held' ⊎ AnswersMidway (λ below text. ⊥) answer faults faults' held held'
+listed until budget wanted tree report answer faults faults' held held' (inl whole) = inl whole
+listed until budget wanted tree report answer faults faults' held held' (inr (below, text, midway, how)) = absurd (no_middle until budget wanted tree below text midway)
+
+pub listed_cause : (until budget : ℕ) (wanted : Bool) (names : List (List ℕ)) (answer : Result (Unit {0}) Refusal) → IfErr answer (λ r. IsOfModel names r ⊎ IsOfRun (by_list until budget wanted) r)
+    → IfErr answer (λ r. IsOfCommand (commands.Seq until budget) names r)
+listed_cause until budget wanted names answer cause = if_err_each answer _ _ (of_list until budget wanted names) cause
+
+pub stepped_cause : (until budget : ℕ) (wanted : Bool) (aligned : Align) (threshold : ℕ) (names : List (List ℕ)) (answer : Result (Unit {0}) Refusal)
+    → IfErr answer (λ r. IsOfModel names r ⊎ IsOfRun (on_timelines until budget wanted aligned threshold) r)
+    → IfErr answer (λ r. IsOfCommand (commands.Step until budget aligned threshold) names r)
+stepped_cause until budget wanted aligned threshold names answer cause = if_err_each answer _ _ (of_steps until budget wanted aligned threshold names) cause

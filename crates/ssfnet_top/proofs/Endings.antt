@@ -8,8 +8,8 @@ use Rattle.ssfnet_top.specs.declared.refusal.Refusal.{Refusal}
 use Rattle.ssfnet_top.specs.declared.refusal.Refusal.TheVariants as refusal
 use Rattle.ssfnet_top.specs.Refusals.{status_of, line_of}
 use Rattle.command_words.specs.Words.{Asked, asked_of_words}
-use Rattle.ssfnet_top.specs.Outcome.{Due, done, done_with, refused, refusal_line, AreRead, IsText, IsTreeDue, IsAskedDue, IsOutcome}
-use Rattle.ssfnet_top.specs.Ending.{Outside, IsReport, Tells, IsToldOf, WantsReport, HasTold, IsReportCut, IsReportTold, IsStopped, IsReached, IsFileReached, Ends, due_of, IsHalt, Answers, IsReadFault, IsTold, IsLineCut, Concerns}
+use Rattle.ssfnet_top.specs.Outcome.{Due, done, done_with, refused, refusal_line, AreRead, IsText, IsTreeDue, IsAskedDue, IsOutcome, IsTreeMidway, IsAskedMidway, IsMidway}
+use Rattle.ssfnet_top.specs.Ending.{Outside, IsReport, IsLongReport, IsMade, AnswersMidway, Tells, IsToldOf, WantsReport, HasTold, IsReportCut, IsReportTold, IsStopped, IsReached, IsFileReached, Ends, due_of, IsHalt, Answers, IsReadFault, IsTold, IsLineCut, Concerns}
 use Rattle.std.proofs.lemmas.Grind.{common_steps}
 
 -- nothing is written
@@ -31,12 +31,16 @@ empty_where : (wanted : Bool) (text : List ℕ) → IsReport wanted text → ¬ 
 empty_where true text is lacks = absurd (lacks refl)
 empty_where false text is lacks = is
 
+empty_long : (wanted : Bool) (text : List ℕ) → IsLongReport wanted text → ¬ (wanted ≡ true) → text ≡ []
+empty_long true text is lacks = absurd (lacks refl)
+empty_long false text is lacks = is
+
 told_nothing : (command : Command) (wanted : Bool) (text : List ℕ) → Tells command wanted text → ¬ (wanted ≡ true) → text ≡ []
 told_nothing (commands.Dml flat) wanted text is lacks = is
 told_nothing commands.Check wanted text is lacks = is
 told_nothing commands.Plan wanted text is lacks = is
 told_nothing (commands.Seq until budget) wanted text is lacks = empty_where wanted text is lacks
-told_nothing (commands.Step until budget aligned threshold) wanted text is lacks = absurd is
+told_nothing (commands.Step until budget aligned threshold) wanted text is lacks = empty_long wanted text is lacks
 told_nothing (commands.Run until budget aligned threshold workers) wanted text is lacks = absurd is
 told_nothing (commands.Gen seed size) wanted text is lacks = is
 
@@ -80,7 +84,7 @@ module _ (before after : Outside) where
   write_stops : (asked : Option Asked) (status : ℕ) → Rose before.out_faults after.out_faults → Concerns asked refusal.Write
       → IsTold refusal.Write status before.err_faults after.err_faults before.err after.err → IsStopped asked status before after
   write_stops asked status rose c (inl told) = inr (told.0, inl (rose, told.1))
-  write_stops asked status rose c (inr (inl told)) = absurd (told.1 refl)
+  write_stops asked status rose c (inr (inl told)) = absurd told.1
   write_stops asked status rose c (inr (inr failed)) = inr (failed.0, inr (cut_line asked refusal.Write before.err_faults after.err_faults before.err after.err c failed.1 failed.2))
 
   halt_stops : (asked : Option Asked) (r : Refusal) (status : ℕ) → IsHalt (Err r) before.out_faults after.out_faults → Concerns asked r
@@ -108,16 +112,46 @@ module _ (before after : Outside) where
         → Concerns (asked_of_words words) (refusal.Read name)
         → IsTold (refusal.Read name) status before.err_faults after.err_faults before.err after.err → Ends files words status before after
     unread_ends name status file rose none c (inl told) =
-        inr (record { cause = inr (record { status_is = told.0; rose = rose; name = name; file = file; err = told.1 }); out = none })
-    unread_ends name status file rose none c (inr (inl told)) = inr (record { cause = inl (inl (told.0, told.2)); out = none })
+        inr (inl (record { cause = inr (record { status_is = told.0; rose = rose; name = name; file = file; err = told.1 }); out = none }))
+    unread_ends name status file rose none c (inr (inl told)) = inr (inl (record { cause = inl (inl (told.0, told.2)); out = none }))
     unread_ends name status file rose none c (inr (inr failed)) =
         let cut = cut_line (asked_of_words words) (refusal.Read name) before.err_faults after.err_faults before.err after.err c failed.1 failed.2 in
-        inr (record { cause = inl (inr (failed.0, inr cut)); out = none })
+        inr (inl (record { cause = inl (inr (failed.0, inr cut)); out = none }))
+
+    -- it was ended in the middle of a run
+    short_ends : (below status : ℕ) (text : List ℕ) → IsMidway files words below text → Appends text before.out after.out → Concerns (asked_of_words words) (refusal.MemoryBelow below)
+        → IsTold (refusal.MemoryBelow below) status before.err_faults after.err_faults before.err after.err → Ends files words status before after
+    short_ends below status text midway all c (inl told) = inr (inr (record { below = below; text = text; midway = midway; ended = inl (told.0, all, told.1) }))
+    short_ends below status text midway all c (inr (inl told)) = absurd told.1
+    short_ends below status text midway all c (inr (inr failed)) =
+        let cut = cut_line (asked_of_words words) (refusal.MemoryBelow below) before.err_faults after.err_faults before.err after.err c failed.1 failed.2 in
+        inr (inr (record { below = below; text = text; midway = midway; ended = inr (failed.0, part_all text before.out after.out all, inr cut) }))
+
+    failed_ends : (below status : ℕ) (text : List ℕ) → IsMidway files words below text → Rose before.out_faults after.out_faults → AppendsPrefix text before.out after.out
+        → Concerns (asked_of_words words) refusal.Write
+        → IsTold refusal.Write status before.err_faults after.err_faults before.err after.err → Ends files words status before after
+    failed_ends below status text midway rose part c (inl told) = inr (inr (record { below = below; text = text; midway = midway; ended = inr (told.0, part, inl (rose, told.1)) }))
+    failed_ends below status text midway rose part c (inr (inl told)) = absurd told.1
+    failed_ends below status text midway rose part c (inr (inr failed)) =
+        let cut = cut_line (asked_of_words words) refusal.Write before.err_faults after.err_faults before.err after.err c failed.1 failed.2 in
+        inr (inr (record { below = below; text = text; midway = midway; ended = inr (failed.0, part, inr cut) }))
+
+    midway_ends : (r : Refusal) (status : ℕ) → AnswersMidway (IsMidway files words) (Err r) before.out_faults after.out_faults before.out after.out → Concerns (asked_of_words words) r
+        → IsTold r status before.err_faults after.err_faults before.err after.err → Ends files words status before after
+    midway_ends r status (below, text, midway, inl (is, all)) c told =
+        let same : r ≡ refusal.MemoryBelow below = cc in
+        let P : Refusal → Type 0 = λ s. IsTold s status before.err_faults after.err_faults before.err after.err in
+        short_ends below status text midway all (subst (λ (s : Refusal). Concerns (asked_of_words words) s) same c) (subst P same told)
+    midway_ends r status (below, text, midway, inr (is, rose, part)) c told =
+        let same : r ≡ refusal.Write = cc in
+        let P : Refusal → Type 0 = λ s. IsTold s status before.err_faults after.err_faults before.err after.err in
+        failed_ends below status text midway rose part (subst (λ (s : Refusal). Concerns (asked_of_words words) s) same c) (subst P same told)
 
     -- it was refused, and the line told
     pub ends_refused : (report : List ℕ) (r : Refusal) (status : ℕ)
         → Answers (IsOutcome files words) report (Err r) before.out_faults after.out_faults before.out after.out
-        ⊎ IsReadFault files (asked_of_words words) (Err r) before.read_faults after.read_faults before.out after.out
+        ⊎ (IsReadFault files (asked_of_words words) (Err r) before.read_faults after.read_faults before.out after.out
+        ⊎ AnswersMidway (IsMidway files words) (Err r) before.out_faults after.out_faults before.out after.out)
         → Concerns (asked_of_words words) r
         → IsTold r status before.err_faults after.err_faults before.err after.err
         → Ends files words status before after
@@ -126,8 +160,9 @@ module _ (before after : Outside) where
         inl (due, outcome, inr (inl (record { stopped = halt_stops (asked_of_words words) r status halt c told; out = part })))
     ends_refused report r status (inl (inr (inr (is, none)))) c told =
         let halt : IsHalt (Err r) before.out_faults after.out_faults = inl is in
-        inr (record { cause = inl (halt_stops (asked_of_words words) r status halt c told); out = none })
-    ends_refused report r status (inr (name, file, is, rose, none)) c told =
+        inr (inl (record { cause = inl (halt_stops (asked_of_words words) r status halt c told); out = none }))
+    ends_refused report r status (inr (inr short)) c told = midway_ends r status short c told
+    ends_refused report r status (inr (inl (name, file, is, rose, none))) c told =
         let same : r ≡ refusal.Read name = cc in
         let P : Refusal → Type 0 = λ s. IsTold s status before.err_faults after.err_faults before.err after.err in
         unread_ends name status file rose none (subst (λ (s : Refusal). Concerns (asked_of_words words) s) same c) (subst P same told)
@@ -145,14 +180,17 @@ module _ (before after : Outside) where
 
     pub ends_well : (report : List ℕ) (unit : Unit {0}) (status : ℕ)
         → Answers (IsOutcome files words) report (Ok unit) before.out_faults after.out_faults before.out after.out
-        ⊎ IsReadFault files (asked_of_words words) (Ok unit) before.read_faults after.read_faults before.out after.out
+        ⊎ (IsReadFault files (asked_of_words words) (Ok unit) before.read_faults after.read_faults before.out after.out
+        ⊎ AnswersMidway (IsMidway files words) (Ok unit) before.out_faults after.out_faults before.out after.out)
         → IsToldOf (asked_of_words words) report
         → IsReportTold report status before.err_faults after.err_faults before.err after.err
         → Ends files words status before after
     ends_well report unit status (inl (inl all)) is told = done_ends report all.0 status all.1 all.2 is told
     ends_well report unit status (inl (inr (inl (due, outcome, halt, part)))) is told = absurd (not_halted unit before.out_faults after.out_faults halt)
     ends_well report unit status (inl (inr (inr (memory, none)))) is told = absurd (ok_err unit refusal.Memory memory)
-    ends_well report unit status (inr (name, file, read, rose, none)) is told = absurd (ok_err unit (refusal.Read name) read)
+    ends_well report unit status (inr (inl (name, file, read, rose, none))) is told = absurd (ok_err unit (refusal.Read name) read)
+    ends_well report unit status (inr (inr (below, text, midway, inl (short, all)))) is told = absurd (ok_err unit (refusal.MemoryBelow below) short)
+    ends_well report unit status (inr (inr (below, text, midway, inr (failed, rose, part)))) is told = absurd (ok_err unit refusal.Write failed)
 
 -- What is told whatever the files hold.
 
@@ -168,11 +206,6 @@ module _ (r : Refusal) (status faults faults' : ℕ) (held held' : Option (List 
   told_line asked (inl told) c = inr (inr (r, sym told.0, c, told.1))
   told_line asked (inr (inl told)) c = inr (inr (refusal.Memory, sym told.0, tt, told.2))
   told_line asked (inr (inr failed)) c = inr (inl (failed.0, inl (cut_line asked r faults faults' held held' c failed.1 failed.2)))
-
--- a report that is written from a copy of it
-pub told_as : (text report : List ℕ) (status faults faults' : ℕ) (held held' : Option (List ℕ)) → text ≡ report → IsReportTold text status faults faults' held held'
-    → IsReportTold report status faults faults' held held'
-told_as text report status faults faults' held held' same told = subst (λ (t : List ℕ). IsReportTold t status faults faults' held held') same told
 
 module _ (asked : Option Asked) (report : List ℕ) (status faults faults' : ℕ) (held held' : Option (List ℕ)) (is : IsToldOf asked report) where
   pub report_line : IsReportTold report status faults faults' held held' → IsTelling asked status faults faults' held held'
@@ -240,6 +273,8 @@ read_is (refusal.Path file f) is = absurd (omega arith)
 read_is (refusal.Shape f) is = absurd (omega arith)
 read_is refusal.Write is = absurd (omega arith)
 read_is (refusal.Budget budget) is = absurd (omega arith)
+read_is (refusal.TimelineBudget timeline budget below) is = absurd (omega arith)
+read_is (refusal.MemoryBelow below) is = absurd (omega arith)
 
 -- what words ask is answered
 module _ (words : List (List ℕ)) (asked : Asked) (names : List (List ℕ)) (asks : asked_of_words words ≡ Some asked) (same : names ≡ asked.files) where
@@ -247,27 +282,34 @@ module _ (words : List (List ℕ)) (asked : Asked) (names : List (List ℕ)) (as
   outcome_of files tree due read is =
       subst (λ (o : Option Asked). IsAskedDue files o due) (sym asks) (tree, subst (λ (l : List (List ℕ)). AreRead files 0 l tree) same read, is)
 
+  -- and so is what stands where they are ended in the middle of a run
+  midway_of : (files : Files) (tree : Result Attributes Refusal) (below : ℕ) (text : List ℕ) → AreRead files 0 names tree → IsTreeMidway asked tree below text → IsMidway files words below text
+  midway_of files tree below text read is =
+      subst (λ (o : Option Asked). IsAskedMidway files o below text) (sym asks) (tree, subst (λ (l : List (List ℕ)). AreRead files 0 l tree) same read, is)
+
   unread_answer : (files : Files) (report : List ℕ) (r : Refusal) (read read' faults : ℕ) (held : Option (List ℕ))
       → ((r ≡ refusal.Memory) ⊎ (status_of r ≡ 3)) ⊎ AreRead files 0 names (Err r) → ((name : List ℕ) → r ≡ refusal.Read name → IsReached files 0 names name) → (status_of r ≡ 3 → Rose read read')
-      → Answers (IsOutcome files words) report (Err r) faults faults held held ⊎ IsReadFault files (asked_of_words words) (Err r) read read' held held
+      → Answers (IsOutcome files words) report (Err r) faults faults held held
+      ⊎ (IsReadFault files (asked_of_words words) (Err r) read read' held held ⊎ AnswersMidway (IsMidway files words) (Err r) faults faults held held)
   unread_answer files report r read read' faults held (inl (inl m)) reached rose = inl (inr (inr (ap (λ (s : Refusal). Err s) m, appends_nothing held)))
   unread_answer files report r read read' faults held (inl (inr three)) reached rose =
       let found : (name : List ℕ) × (r ≡ refusal.Read name) = read_is r three in
       let file : IsReached files 0 names found.0 = reached found.0 found.1 in
-      inr (found.0, of_file files asked (asked_of_words words) names found.0 asks same file, ap (λ (s : Refusal). Err s) found.1, rose three, appends_nothing held)
+      inr (inl (found.0, of_file files asked (asked_of_words words) names found.0 asks same file, ap (λ (s : Refusal). Err s) found.1, rose three, appends_nothing held))
   unread_answer files report r read read' faults held (inr are) reached rose = inl (inl ([], outcome_of files (Err r) (refused r []) are refl, appends_nothing held))
 
   -- where the files were refused
   pub unread_answers : (told : Option Files) (report : List ℕ) (r : Refusal) (read read' faults : ℕ) (held : Option (List ℕ))
       → ((r ≡ refusal.Memory) ⊎ (status_of r ≡ 3)) ⊎ IfSome told (λ files. AreRead files 0 names (Err r))
       → ((name : List ℕ) → r ≡ refusal.Read name → IfSome told (λ files. IsReached files 0 names name)) → (status_of r ≡ 3 → Rose read read')
-      → IfSome told (λ files. Answers (IsOutcome files words) report (Err r) faults faults held held ⊎ IsReadFault files (asked_of_words words) (Err r) read read' held held)
+      → IfSome told (λ files. Answers (IsOutcome files words) report (Err r) faults faults held held
+      ⊎ (IsReadFault files (asked_of_words words) (Err r) read read' held held ⊎ AnswersMidway (IsMidway files words) (Err r) faults faults held held))
   unread_answers None report r read read' faults held are reached rose = tt
   unread_answers (Some files) report r read read' faults held are reached rose = unread_answer files report r read read' faults held are reached rose
 
 -- What is said on `err`.
 
-pub said_memory : (r : Refusal) (status faults faults' : ℕ) (held held' : Option (List ℕ)) → ¬ (r ≡ refusal.Write)
+pub said_memory : (r : Refusal) (status faults faults' : ℕ) (held held' : Option (List ℕ)) → IsMade r
     → ((status ≡ 1) × Appends (codes "memory" ++ 10 ∷ []) held held') ⊎ ((status ≡ 7) × Rose faults faults' × AppendsPrefix (codes "memory" ++ 10 ∷ []) held held')
     → IsTold r status faults faults' held held'
 unfolding line_of
@@ -289,7 +331,8 @@ said_write r status faults faults' held held' is said = subst (λ (s : Refusal).
 
 pub told_refused : (told : Option Files) (words : List (List ℕ)) (before after : Outside) (report : List ℕ) (r : Refusal) (status : ℕ)
     → IfSome told (λ files. Answers (IsOutcome files words) report (Err r) before.out_faults after.out_faults before.out after.out
-    ⊎ IsReadFault files (asked_of_words words) (Err r) before.read_faults after.read_faults before.out after.out)
+    ⊎ (IsReadFault files (asked_of_words words) (Err r) before.read_faults after.read_faults before.out after.out
+    ⊎ AnswersMidway (IsMidway files words) (Err r) before.out_faults after.out_faults before.out after.out))
     → Concerns (asked_of_words words) r
     → IsTold r status before.err_faults after.err_faults before.err after.err
     → IfSome told (λ files. Ends files words status before after)
@@ -298,7 +341,8 @@ told_refused (Some files) words before after report r status answers c told = en
 
 pub told_well : (told : Option Files) (words : List (List ℕ)) (before after : Outside) (report : List ℕ) (unit : Unit {0}) (status : ℕ)
     → IfSome told (λ files. Answers (IsOutcome files words) report (Ok unit) before.out_faults after.out_faults before.out after.out
-    ⊎ IsReadFault files (asked_of_words words) (Ok unit) before.read_faults after.read_faults before.out after.out)
+    ⊎ (IsReadFault files (asked_of_words words) (Ok unit) before.read_faults after.read_faults before.out after.out
+    ⊎ AnswersMidway (IsMidway files words) (Ok unit) before.out_faults after.out_faults before.out after.out))
     → IsToldOf (asked_of_words words) report
     → IsReportTold report status before.err_faults after.err_faults before.err after.err
     → IfSome told (λ files. Ends files words status before after)

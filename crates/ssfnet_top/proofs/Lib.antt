@@ -6,9 +6,13 @@ pub mod FilesRead
 pub mod Naming
 pub mod NoFiles
 pub mod OneOutcome
-pub mod Pieces
+pub mod OneRun
 pub mod RunOutcome
 pub mod Reports
-pub mod Running
+pub mod Courses
+pub mod Schedules
+pub mod Stepping
+pub mod Pieced
 pub mod Weights
 pub mod Worked
+pub mod ListOutcome

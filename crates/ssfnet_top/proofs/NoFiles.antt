@@ -1,5 +1,5 @@
 -- The command `gen` has no files, and so its outcome and what it writes are the same whatever the files are.
-use Rattle.std.proofs.Common.{ℕ, ◌≡◌, ◌∙◌, ap, refl, sym, subst, true, false, List, [], ◌∷◌, Some, None, Option, Bool, ◌&&◌, nat_le, length, drop, option_map, leb-true, arith, if◌then◌else◌, Result, Ok, Err, OnOk, inl, inr}
+use Rattle.std.proofs.Common.{ℕ, ◌≡◌, ◌∙◌, ap, refl, sym, subst, true, false, List, [], ◌∷◌, Some, None, Option, Bool, ◌&&◌, nat_le, length, drop, option_map, leb-true, arith, if◌then◌else◌, Result, Ok, Err, OnOk, ◌⊎◌, inl, inr}
 use Rattle.std.specs.List.{list_all}
 use Rattle.sim_base.specs.Outside.{Files, Appends}
 use Rattle.dml_tree.specs.Attributes.{Attributes, none}
@@ -13,8 +13,8 @@ use Rattle.command_words.specs.Table.{Text, is_one_of, row, named}
 use Rattle.command_words.specs.Words.{Asked, all_landed, asked_by, asked_of_words, command_in_table, command_of_words, files_in, have_values, in_row_of, is_in_row, is_word_of, stand_once}
 use Rattle.ssfnet_top.specs.declared.refusal.Refusal.{Refusal}
 use Rattle.ssfnet_top.specs.declared.refusal.Refusal.TheVariants as refusal
-use Rattle.ssfnet_top.specs.Outcome.{Due, done, AreRead, IsText, IsCommandDue, IsTreeDue, IsAskedDue, IsOutcome}
-use Rattle.ssfnet_top.specs.Ending.{Answers, Generates, HasGenerated, IsHalt, due_of}
+use Rattle.ssfnet_top.specs.Outcome.{Due, done, AreRead, IsText, IsCommandDue, IsCommandMidway, IsTreeDue, IsAskedDue, IsOutcome}
+use Rattle.ssfnet_top.specs.Ending.{Answers, AnswersMidway, Generates, HasGenerated, IsHalt, due_of}
 use Rattle.ssfnet_top.proofs.Endings.{ok_err}
 
 both : (a b : Bool) → (a && b) ≡ true → (a ≡ true) × (b ≡ true)
@@ -124,17 +124,19 @@ on_ok (Ok unit) = tt
 on_ok (Err r) = tt
 
 generates : (command : Command) (asked : Asked) (tree : Attributes) (report : List ℕ) (answer : Result (Unit {0}) Refusal) (faults faults' : ℕ) (held held' : Option (List ℕ))
-    → Answers (IsCommandDue command asked tree) report answer faults faults' held held' → OnOk answer (Generates command held held')
+    → Answers (IsCommandDue command asked tree) report answer faults faults' held held' ⊎ AnswersMidway (IsCommandMidway command asked tree) answer faults faults' held held' → OnOk answer (Generates command held held')
 generates (commands.Dml flat) asked tree report answer faults faults' held held' answers = on_ok answer
 generates commands.Check asked tree report answer faults faults' held held' answers = on_ok answer
 generates commands.Plan asked tree report answer faults faults' held held' answers = on_ok answer
 generates (commands.Seq until budget) asked tree report answer faults faults' held held' answers = on_ok answer
 generates (commands.Step until budget aligned threshold) asked tree report answer faults faults' held held' answers = on_ok answer
 generates (commands.Run until budget aligned threshold workers) asked tree report answer faults faults' held held' answers = on_ok answer
-generates (commands.Gen seed size) asked tree report answer faults faults' held held' answers = all_written (campus_text seed size) report answer faults faults' held held' answers
+generates (commands.Gen seed size) asked tree report answer faults faults' held held' (inl answers) = all_written (campus_text seed size) report answer faults faults' held held' answers
+generates (commands.Gen seed size) asked tree report answer faults faults' held held' (inr (below, text, midway, how)) = absurd midway
 
 pub campus_written : (o : Option Asked) (asked : Asked) (tree : Attributes) (report : List ℕ) (answer : Result (Unit {0}) Refusal) (faults faults' : ℕ) (held held' : Option (List ℕ))
-    → o ≡ Some asked → Answers (IsCommandDue asked.command asked tree) report answer faults faults' held held' → OnOk answer (HasGenerated o held held')
+    → o ≡ Some asked → Answers (IsCommandDue asked.command asked tree) report answer faults faults' held held' ⊎ AnswersMidway (IsCommandMidway asked.command asked tree) answer faults faults' held held'
+    → OnOk answer (HasGenerated o held held')
 campus_written o asked tree report answer faults faults' held held' is answers =
     let written : OnOk answer (HasGenerated (Some asked) held held') = generates asked.command asked tree report answer faults faults' held held' answers in
     subst (λ (p : Option Asked). OnOk answer (HasGenerated p held held')) (sym is) written

@@ -1,4 +1,4 @@
--- There is at most one outcome.
+-- There is at most one outcome, but for the timeline at which a budget ends, and what stands in the middle of a run begins it.
 use Rattle.std.proofs.Common.{ℕ, ◌≡◌, ◌<◌, ◌≤◌, ◌+◌, ◌⊎◌, inl, inr, ◌∙◌, sym, ap, subst, refl, Bool, true, false, List, [], ◌∷◌, Option, Some, None, IsSome, Result, Ok, Err, arith}
 use Rattle.sim_base.specs.Outside.{Files}
 use Rattle.dml_tree.specs.declared.tree.Attribute.{Attribute}
@@ -18,6 +18,7 @@ use Rattle.net_build.specs.declared.built.Built.{Built}
 use Rattle.net_build.specs.PlanText.{ring_text_of}
 use Rattle.net_build.specs.RingModel.{ring_plan_of}
 use Rattle.net_build.proofs.OneText.{plan_texts_one}
+use Rattle.net_plan.specs.NetPlan.{IsPlanOf}
 use Rattle.net_plan.proofs.Refusing.{plans_one}
 use Rattle.host_stack.specs.declared.host.Host.{Host}
 use Rattle.host_rules.specs.Hosts.{HostFields}
@@ -38,7 +39,13 @@ use Rattle.command_words.specs.declared.command.Command.{Command}
 use Rattle.command_words.specs.declared.command.Command.TheVariants as commands
 use Rattle.ssfnet_top.specs.declared.refusal.Refusal.{Refusal}
 use Rattle.command_words.specs.Words.{Asked, asked_of_words}
-use Rattle.ssfnet_top.specs.Outcome.{Due, done, done_with, report_if, meant, IsRead, AreRead, resolved_of, shaped, unless, planned_network, counts_of, IsText, IsNetworkPlan, IsPlanIn, IsPlan, HasEvents, IsWithin, IsOver, IsRunDue, IsRingRun, IsNetworkRun, IsRunIn, IsModelRun, IsPrinted, IsCommandDue, IsTreeDue, IsAskedDue, IsOutcome}
+use Rattle.ssfnet_top.specs.declared.running.Running.{Running}
+use Rattle.ssfnet_top.specs.declared.running.Way.{Way}
+use Rattle.ssfnet_top.specs.declared.running.Way.TheVariants as way
+use Rattle.ssfnet_top.specs.Outcome.{Due, done, done_with, report_if, meant, IsRead, AreRead, resolved_of, shaped, unless, planned_network, counts_of, IsText, IsNetworkPlan, IsPlanIn, IsPlan, HasEvents, IsWithin, IsOver, IsCourseBy, IsCourse, IsRingRun, IsNetworkRun, IsRunIn, IsModelRun, IsPrinted, by_list, on_timelines, IsCommandDue, IsTreeDue, IsAskedDue, IsOutcome, IsCommandMidway, IsTreeMidway, IsAskedMidway, IsMidway}
+use Rattle.ssfnet_top.specs.Outcome.Course.{Ended, Midway}
+use Rattle.ssfnet_top.specs.Agreeing.{Agree, Begins}
+use Rattle.ssfnet_top.proofs.OneRun.{agree_on, begins_on}
 
 -- a file has one reading
 read_once : (name : List ℕ) (number : ℕ) (o : Option (List ℕ)) (a b : Result Attributes Refusal) → IsRead name number o a → IsRead name number o b → a ≡ b
@@ -127,55 +134,127 @@ plan_once : (tree : Result Attributes Refusal) (due other : Due) → IsPlan tree
 plan_once (Ok tree) due other p q = plan_in_once (has_net (attributes tree)) tree due other p q
 plan_once (Err r) due other p q = p ∙ sym q
 
--- a ring has one run
-ring_run_once : (until budget : ℕ) (wanted : Bool) (r : Read (Built Ring RingState RingPayload)) (due other : Due) → IsRingRun until budget wanted r due → IsRingRun until budget wanted r other → due ≡ other
-ring_run_once until budget wanted (Ok built) due other p q =
+-- the course of a run of one plan is one, but for the timeline at which a budget ends
+course_by_agrees : {B S P : Type 0} (by : Way) (r : Reaction S P) (built : Built B S P) (until budget : ℕ) (wanted : Bool) (due other : Due)
+    → IsCourseBy by r built until budget wanted (Ended due) → IsCourseBy by r built until budget wanted (Ended other) → Agree due other
+course_by_agrees way.OneList r built until budget wanted due other p q =
     let here : budget ≤ budget = omega arith in
-    run_once ring_reaction built.plan until budget built.names budget wanted due other (p budget here) (q budget here)
-ring_run_once until budget wanted (Err fault) due other p q = p ∙ sym q
+    inl (run_once r built.plan until budget built.names budget wanted due other (p budget here) (q budget here))
+course_by_agrees (way.Timelines mode threshold) r built until budget wanted due other p q =
+    agree_on r built.plan built.names built.nets mode threshold until budget wanted due other p q
 
--- so has a network of hosts, which has one plan and one list of names
+-- what stands in its middle begins it
+course_by_begins : {B S P : Type 0} (by : Way) (r : Reaction S P) (built : Built B S P) (until budget : ℕ) (wanted : Bool) (below : ℕ) (text : List ℕ) (due : Due)
+    → IsCourseBy by r built until budget wanted (Midway below text) → IsCourseBy by r built until budget wanted (Ended due) → Begins text due.out
+course_by_begins way.OneList r built until budget wanted below text due p q = absurd p
+course_by_begins (way.Timelines mode threshold) r built until budget wanted below text due p q =
+    begins_on r built.plan built.names built.nets mode threshold until budget wanted below text due p q
+
+module _ {B S P : Type 0} (r : Reaction S P) (built : Built B S P) (running : Running) where
+  course_agrees : (due other : Due) → IsCourse r built running (Ended due) → IsCourse r built running (Ended other) → Agree due other
+  course_agrees due other p q = course_by_agrees running.way r built running.until running.budget running.report due other p q
+
+  course_begins : (below : ℕ) (text : List ℕ) (due : Due) → IsCourse r built running (Midway below text) → IsCourse r built running (Ended due) → Begins text due.out
+  course_begins below text due p q = course_by_begins running.way r built running.until running.budget running.report below text due p q
+
+-- so is that of a ring
+ring_run_agrees : (running : Running) (r : Read (Built Ring RingState RingPayload)) (due other : Due) → IsRingRun running r (Ended due) → IsRingRun running r (Ended other) → Agree due other
+ring_run_agrees running (Ok built) due other p q = course_agrees ring_reaction built running due other p q
+ring_run_agrees running (Err fault) due other p q = inl (p ∙ sym q)
+
+ring_run_begins : (running : Running) (r : Read (Built Ring RingState RingPayload)) (below : ℕ) (text : List ℕ) (due : Due) → IsRingRun running r (Midway below text) → IsRingRun running r (Ended due)
+    → Begins text due.out
+ring_run_begins running (Ok built) below text due p q = course_begins ring_reaction built running below text due p q
+ring_run_begins running (Err fault) below text due p q = absurd p
+
+-- and that of a network of hosts, which has one plan with one list of names and one of Nets
 names_same : (a b : Names) → a.names ≡ b.names → a ≡ b
 names_same a b same = ap (λ (names : List (List ℕ)). record { names = names }) same
 
-network_run_once : (until budget : ℕ) (wanted : Bool) (r : Read Network) (due other : Due) → IsNetworkRun until budget wanted r due → IsNetworkRun until budget wanted r other → due ≡ other
-network_run_once until budget wanted (Ok network) due other p q =
-    let here : budget ≤ budget = omega arith in
-    let plan : p.0.plan ≡ q.0.plan = plans_one (record {}) network p.0.plan q.0.plan p.1.plan q.1.plan in
-    let names : p.0.names ≡ q.0.names = names_same p.0.names q.0.names (p.1.names ∙ sym q.1.names) in
-    let run : IsRunDue host_reaction q.0.plan q.0.names until budget wanted due =
-    subst (λ (n : Names). IsRunDue host_reaction q.0.plan n until budget wanted due) names
-    (subst (λ (l : Plan Host HostFields PacketFields). IsRunDue host_reaction l p.0.names until budget wanted due) plan p.2) in
-    run_once host_reaction q.0.plan until budget q.0.names budget wanted due other (run budget here) (q.2 budget here)
-network_run_once until budget wanted (Err fault) due other p q = p ∙ sym q
+built_same : (a b : Built Host HostFields PacketFields) → a.plan ≡ b.plan → a.names ≡ b.names → a.nets ≡ b.nets → a ≡ b
+built_same a b plan names nets =
+    let one : Plan Host HostFields PacketFields → Built Host HostFields PacketFields = λ p. record { plan = p; names = a.names; nets = a.nets } in
+    let two : Names → Built Host HostFields PacketFields = λ n. record { plan = b.plan; names = n; nets = a.nets } in
+    let three : List ℕ → Built Host HostFields PacketFields = λ l. record { plan = b.plan; names = b.names; nets = l } in
+    ap one plan ∙ (ap two names ∙ ap three nets)
 
-run_in_once : (until budget : ℕ) (wanted : Bool) (is_net : Bool) (root : List Attribute) (due other : Due) → IsRunIn until budget wanted is_net root due → IsRunIn until budget wanted is_net root other → due ≡ other
-run_in_once until budget wanted true root due other p q = network_run_once until budget wanted (planned_network root) due other p q
-run_in_once until budget wanted false root due other p q = ring_run_once until budget wanted (ring_plan_of root) due other p q
+plan_of_one : (network : Network) (a b : Built Host HostFields PacketFields) → IsPlanOf network a → IsPlanOf network b → a ≡ b
+plan_of_one network a b p q =
+    built_same a b (plans_one (record {}) network a.plan b.plan p.plan q.plan) (names_same a.names b.names (p.names ∙ sym q.names)) (p.nets ∙ sym q.nets)
 
-model_run_once : (until budget : ℕ) (wanted : Bool) (tree : Result Attributes Refusal) (due other : Due) → IsModelRun until budget wanted tree due → IsModelRun until budget wanted tree other → due ≡ other
-model_run_once until budget wanted (Ok tree) due other p q = run_in_once until budget wanted (has_net (attributes tree)) (attributes tree) due other p q
-model_run_once until budget wanted (Err r) due other p q = p ∙ sym q
+network_run_agrees : (running : Running) (r : Read Network) (due other : Due) → IsNetworkRun running r (Ended due) → IsNetworkRun running r (Ended other) → Agree due other
+network_run_agrees running (Ok network) due other p q =
+    let same : p.0 ≡ q.0 = plan_of_one network p.0 q.0 p.1 q.1 in
+    let here : IsCourse host_reaction q.0 running (Ended due) = subst (λ (b : Built Host HostFields PacketFields). IsCourse host_reaction b running (Ended due)) same p.2 in
+    course_agrees host_reaction q.0 running due other here q.2
+network_run_agrees running (Err fault) due other p q = inl (p ∙ sym q)
 
-command_once : (command : Command) (asked : Asked) (tree : Attributes) (due other : Due) → IsCommandDue command asked tree due → IsCommandDue command asked tree other → due ≡ other
-command_once (commands.Dml false) asked tree due other p q = p ∙ sym q
-command_once (commands.Dml true) asked tree due other p q = printed_once (resolved_of asked.files tree) due other p q
-command_once commands.Check asked tree due other p q = text_once (counts_of (resolved_of asked.files tree)) due other p q
-command_once commands.Plan asked tree due other p q = plan_once (resolved_of asked.files tree) due other p q
-command_once (commands.Seq until budget) asked tree due other p q = model_run_once until budget asked.report (resolved_of asked.files tree) due other p q
-command_once (commands.Gen seed size) asked tree due other p q = p ∙ sym q
-command_once _ asked tree due other p q = absurd p
+network_run_begins : (running : Running) (r : Read Network) (below : ℕ) (text : List ℕ) (due : Due) → IsNetworkRun running r (Midway below text) → IsNetworkRun running r (Ended due) → Begins text due.out
+network_run_begins running (Ok network) below text due p q =
+    let same : p.0 ≡ q.0 = plan_of_one network p.0 q.0 p.1 q.1 in
+    let here : IsCourse host_reaction q.0 running (Midway below text) = subst (λ (b : Built Host HostFields PacketFields). IsCourse host_reaction b running (Midway below text)) same p.2 in
+    course_begins host_reaction q.0 running below text due here q.2
+network_run_begins running (Err fault) below text due p q = absurd p
 
-tree_once : (asked : Asked) (tree : Result Attributes Refusal) (due other : Due) → IsTreeDue asked tree due → IsTreeDue asked tree other → due ≡ other
-tree_once asked (Ok tree) due other p q = command_once asked.command asked tree due other p q
-tree_once asked (Err r) due other p q = p ∙ sym q
+run_in_agrees : (running : Running) (is_net : Bool) (root : List Attribute) (due other : Due) → IsRunIn running is_net root (Ended due) → IsRunIn running is_net root (Ended other) → Agree due other
+run_in_agrees running true root due other p q = network_run_agrees running (planned_network root) due other p q
+run_in_agrees running false root due other p q = ring_run_agrees running (ring_plan_of root) due other p q
 
-asked_once : (files : Files) (asked : Option Asked) (due other : Due) → IsAskedDue files asked due → IsAskedDue files asked other → due ≡ other
-asked_once files None due other p q = p ∙ sym q
-asked_once files (Some asked) due other p q =
+run_in_begins : (running : Running) (is_net : Bool) (root : List Attribute) (below : ℕ) (text : List ℕ) (due : Due) → IsRunIn running is_net root (Midway below text) → IsRunIn running is_net root (Ended due)
+    → Begins text due.out
+run_in_begins running true root below text due p q = network_run_begins running (planned_network root) below text due p q
+run_in_begins running false root below text due p q = ring_run_begins running (ring_plan_of root) below text due p q
+
+model_run_agrees : (running : Running) (tree : Result Attributes Refusal) (due other : Due) → IsModelRun running tree (Ended due) → IsModelRun running tree (Ended other) → Agree due other
+model_run_agrees running (Ok tree) due other p q = run_in_agrees running (has_net (attributes tree)) (attributes tree) due other p q
+model_run_agrees running (Err r) due other p q = inl (p ∙ sym q)
+
+model_run_begins : (running : Running) (tree : Result Attributes Refusal) (below : ℕ) (text : List ℕ) (due : Due) → IsModelRun running tree (Midway below text) → IsModelRun running tree (Ended due)
+    → Begins text due.out
+model_run_begins running (Ok tree) below text due p q = run_in_begins running (has_net (attributes tree)) (attributes tree) below text due p q
+model_run_begins running (Err r) below text due p q = absurd p
+
+command_agrees : (command : Command) (asked : Asked) (tree : Attributes) (due other : Due) → IsCommandDue command asked tree due → IsCommandDue command asked tree other → Agree due other
+command_agrees (commands.Dml false) asked tree due other p q = inl (p ∙ sym q)
+command_agrees (commands.Dml true) asked tree due other p q = inl (printed_once (resolved_of asked.files tree) due other p q)
+command_agrees commands.Check asked tree due other p q = inl (text_once (counts_of (resolved_of asked.files tree)) due other p q)
+command_agrees commands.Plan asked tree due other p q = inl (plan_once (resolved_of asked.files tree) due other p q)
+command_agrees (commands.Seq until budget) asked tree due other p q = model_run_agrees (by_list until budget asked.report) (resolved_of asked.files tree) due other p q
+command_agrees (commands.Step until budget aligned threshold) asked tree due other p q =
+    model_run_agrees (on_timelines until budget asked.report aligned threshold) (resolved_of asked.files tree) due other p q
+command_agrees (commands.Gen seed size) asked tree due other p q = inl (p ∙ sym q)
+command_agrees _ asked tree due other p q = absurd p
+
+command_begins : (command : Command) (asked : Asked) (tree : Attributes) (below : ℕ) (text : List ℕ) (due : Due) → IsCommandMidway command asked tree below text → IsCommandDue command asked tree due
+    → Begins text due.out
+command_begins (commands.Step until budget aligned threshold) asked tree below text due p q =
+    model_run_begins (on_timelines until budget asked.report aligned threshold) (resolved_of asked.files tree) below text due p q
+command_begins _ asked tree below text due p q = absurd p
+
+tree_agrees : (asked : Asked) (tree : Result Attributes Refusal) (due other : Due) → IsTreeDue asked tree due → IsTreeDue asked tree other → Agree due other
+tree_agrees asked (Ok tree) due other p q = command_agrees asked.command asked tree due other p q
+tree_agrees asked (Err r) due other p q = inl (p ∙ sym q)
+
+tree_begins : (asked : Asked) (tree : Result Attributes Refusal) (below : ℕ) (text : List ℕ) (due : Due) → IsTreeMidway asked tree below text → IsTreeDue asked tree due → Begins text due.out
+tree_begins asked (Ok tree) below text due p q = command_begins asked.command asked tree below text due p q
+tree_begins asked (Err r) below text due p q = absurd p
+
+asked_agrees : (files : Files) (asked : Option Asked) (due other : Due) → IsAskedDue files asked due → IsAskedDue files asked other → Agree due other
+asked_agrees files None due other p q = inl (p ∙ sym q)
+asked_agrees files (Some asked) due other p q =
     let same : p.0 ≡ q.0 = files_once files 0 asked.files p.0 q.0 p.1 q.1 in
     let here : IsTreeDue asked q.0 due = rw (← same) p.2 in
-    tree_once asked q.0 due other here q.2
+    tree_agrees asked q.0 due other here q.2
 
-pub one_outcome : (files : Files) (words : List (List ℕ)) (due other : Due) → IsOutcome files words due → IsOutcome files words other → due ≡ other
-one_outcome files words due other first second = asked_once files (asked_of_words words) due other first second
+asked_begins : (files : Files) (asked : Option Asked) (below : ℕ) (text : List ℕ) (due : Due) → IsAskedMidway files asked below text → IsAskedDue files asked due → Begins text due.out
+asked_begins files None below text due p q = absurd p
+asked_begins files (Some asked) below text due p q =
+    let same : p.0 ≡ q.0 = files_once files 0 asked.files p.0 q.0 p.1 q.1 in
+    let here : IsTreeMidway asked q.0 below text = rw (← same) p.2 in
+    tree_begins asked q.0 below text due here q.2
+
+pub outcomes_agree : (files : Files) (words : List (List ℕ)) (due other : Due) → IsOutcome files words due → IsOutcome files words other → Agree due other
+outcomes_agree files words due other first second = asked_agrees files (asked_of_words words) due other first second
+
+pub middles_begin : (files : Files) (words : List (List ℕ)) (below : ℕ) (text : List ℕ) (due : Due) → IsMidway files words below text → IsOutcome files words due → Begins text due.out
+middles_begin files words below text due midway outcome = asked_begins files (asked_of_words words) below text due midway outcome

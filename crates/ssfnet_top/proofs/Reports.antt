@@ -10,7 +10,7 @@ use Rattle.ssfnet_top.specs.Ending.{IsReport}
 pub made_report : (wanted : Bool) (before after : List ℕ) (entries : List Entry) → before ≡ [] → after ≡ before ++ report_if wanted entries → after ≡ report_if wanted entries
 made_report wanted before after entries empty made = made ∙ ap (λ (text : List ℕ). text ++ report_if wanted entries) empty
 
-is_report : (wanted : Bool) (text : List ℕ) (entries : List Entry) → text ≡ report_if wanted entries → IsReport wanted text
+pub is_report : (wanted : Bool) (text : List ℕ) (entries : List Entry) → text ≡ report_if wanted entries → IsReport wanted text
 is_report true text entries is = (entries, is)
 is_report false text entries is = is
 

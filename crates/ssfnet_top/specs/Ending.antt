@@ -1,5 +1,5 @@
 -- How a call ends, measured by what is due: all of it, a part of it, or nothing.
-use Rattle.std.specs.Prelude.{ℕ, ◌≡◌, ◌+◌, ◌⊎◌, Bool, true, false, List, [], ◌∷◌, Contains, Option, Some, None, IsSome, Result, Ok, Err}
+use Rattle.std.specs.Prelude.{ℕ, ◌≡◌, ◌+◌, ◌++◌, ◌⊎◌, Bool, true, false, List, [], ◌∷◌, Contains, Option, Some, None, IsSome, Result, Ok, Err}
 use Rattle.std.specs.Option.{IsSomeAnd}
 use Rattle.sim_base.specs.Outside.{Files, Rose, Appends, AppendsPrefix}
 use Rattle.dml_tree.specs.Attributes.{Attributes}
@@ -8,16 +8,20 @@ use Rattle.dml_resolve.specs.declared.resolving.PathFault.{PathFault}
 use Rattle.dml_resolve.specs.declared.resolving.PathFault.TheVariants as path_fault
 use Rattle.net_graph.specs.declared.fault.ShapeFault.TheVariants as shape_fault
 use Rattle.ssf_model.specs.declared.event.Entry.{Entry}
-use Rattle.trace_writer.specs.Report.{report_of}
+use Rattle.trace_writer.specs.Report.{Totals, report_of, report_with}
 use Rattle.model_gen.specs.Campus.{campus_text}
 use Rattle.command_words.specs.declared.command.Command.{Command}
 use Rattle.command_words.specs.declared.command.Command.TheVariants as commands
 use Rattle.ssfnet_top.specs.declared.refusal.Refusal.{Refusal}
 use Rattle.ssfnet_top.specs.declared.refusal.Refusal.TheVariants as refusal
+use Rattle.ssfnet_top.specs.declared.running.Running.{Running}
+use Rattle.ssfnet_top.specs.declared.running.Told.{Told}
+use Rattle.ssfnet_top.specs.declared.running.Way.{Way}
+use Rattle.ssfnet_top.specs.declared.running.Way.TheVariants as way
 use Rattle.ssfnet_top.specs.Refusals.{status_of}
 use Rattle.ssfnet_top.specs.FilePlaces.{IsPlaced}
 use Rattle.command_words.specs.Words.{Asked, asked_of_words}
-use Rattle.ssfnet_top.specs.Outcome.{Due, done_with, refused, refusal_line, file_of_fault, IsFileRead, IsOutcome}
+use Rattle.ssfnet_top.specs.Outcome.{Due, done_with, refused, refusal_line, windows_line, file_of_fault, IsFileRead, IsOutcome, IsMidway}
 
 -- a file of this name is one of the command's
 abbrev pub IsFileOf : Option Asked → List ℕ → Type 0
@@ -31,11 +35,21 @@ HasBudget commands.Plan budget = ⊥
 HasBudget (commands.Seq until most) budget = budget ≡ most
 HasBudget _ budget = ⊥
 
+-- it is run on timelines, with this budget
+abbrev pub HasTimelineBudget : Command → ℕ → Type 0
+HasTimelineBudget (commands.Step until most aligned threshold) budget = budget ≡ most
+HasTimelineBudget _ budget = ⊥
+
+abbrev pub HasMiddle : Command → Type 0
+HasMiddle (commands.Step until most aligned threshold) = Unit {0}
+HasMiddle _ = ⊥
+
 abbrev pub Resolves : Command → Type 0
 Resolves (commands.Dml flat) = flat ≡ true
 Resolves commands.Check = Unit {0}
 Resolves commands.Plan = Unit {0}
 Resolves (commands.Seq until most) = Unit {0}
+Resolves (commands.Step until most aligned threshold) = Unit {0}
 Resolves _ = ⊥
 
 abbrev pub HasModel : Command → Type 0
@@ -43,6 +57,7 @@ HasModel (commands.Dml flat) = ⊥
 HasModel commands.Check = Unit {0}
 HasModel commands.Plan = Unit {0}
 HasModel (commands.Seq until most) = Unit {0}
+HasModel (commands.Step until most aligned threshold) = Unit {0}
 HasModel _ = ⊥
 
 -- the file is that of the fault, and one of these
@@ -58,6 +73,8 @@ Concerns asked (refusal.Path file fault) = IsSomeAnd asked (λ a. Resolves a.com
 Concerns asked (refusal.Shape fault) = IsSomeAnd asked (λ a. HasModel a.command) × ¬ (fault ≡ shape_fault.Memory)
 Concerns asked refusal.Write = IsSome asked
 Concerns asked (refusal.Budget budget) = IsSomeAnd asked (λ a. HasBudget a.command budget)
+Concerns asked (refusal.TimelineBudget timeline budget below) = IsSomeAnd asked (λ a. HasTimelineBudget a.command budget)
+Concerns asked (refusal.MemoryBelow below) = IsSomeAnd asked (λ a. HasMiddle a.command)
 
 -- where a campus is asked, its text was written, whatever the files are
 abbrev pub Generates : Command → Option (List ℕ) → Option (List ℕ) → Type 0
@@ -75,12 +92,23 @@ abbrev pub IsReport : Bool → List ℕ → Type 0
 IsReport true text = (entries : List Entry) × (text ≡ report_of entries)
 IsReport false text = text ≡ []
 
--- what a command tells there: `seq` a report where one is wanted, and the others nothing
+-- the report of some events with the line of some windows behind it, where they are wanted, and else nothing
+abbrev pub IsLongReport : Bool → List ℕ → Type 0
+IsLongReport true text = (entries : List Entry) × (crossed : ℕ) × (last : ℕ) × (text ≡ report_of entries ++ windows_line crossed last)
+IsLongReport false text = text ≡ []
+
+-- the report with these numbers, where one is wanted
+abbrev pub report_with_if : Bool → Totals → List ℕ
+report_with_if true totals = report_with totals
+report_with_if false totals = []
+
+-- what a command tells there: `seq` and `step` a report where one is wanted, and the others nothing
 abbrev pub Tells : Command → Bool → List ℕ → Type 0
 Tells (commands.Dml flat) wanted text = text ≡ []
 Tells commands.Check wanted text = text ≡ []
 Tells commands.Plan wanted text = text ≡ []
 Tells (commands.Seq until budget) wanted text = IsReport wanted text
+Tells (commands.Step until budget aligned threshold) wanted text = IsLongReport wanted text
 Tells (commands.Gen seed size) wanted text = text ≡ []
 -- no words ask for the commands that have not landed
 Tells _ wanted text = ⊥
@@ -174,11 +202,19 @@ pub record IsNothing (files : Files) (asked : Option Asked) (status : ℕ) (befo
   pub cause : IsStopped asked status before after ⊎ IsUnread files asked status before after
   pub out : Appends [] before.out after.out
 
+-- a run was ended in its middle: for want of memory, with exactly the records before a time; or a sink failed, with a part of them
+pub record IsEndedMidway (files : Files) (words : List (List ℕ)) (status : ℕ) (before after : Outside) : Type 0 where
+  pub below : ℕ
+  pub text : List ℕ
+  pub midway : IsMidway files words below text
+  pub ended : ((status ≡ 1) × Appends text before.out after.out × Appends (refusal_line (refusal.MemoryBelow below)) before.err after.err)
+      ⊎ ((status ≡ 7) × AppendsPrefix text before.out after.out × IsFailed (asked_of_words words) before after)
+
 -- A call with these words and these files ended with this status.
 abbrev pub Ends : Files → List (List ℕ) → ℕ → Outside → Outside → Type 0
 Ends files words status before after =
     ((due : Due) × IsOutcome files words due × IsDone (asked_of_words words) due status before after)
-    ⊎ IsNothing files (asked_of_words words) status before after
+    ⊎ (IsNothing files (asked_of_words words) status before after ⊎ IsEndedMidway files words status before after)
 
 -- Within a call, where files of these names are read: what a refusal may be.
 abbrev pub IsOfFiles : List (List ℕ) → Refusal → Type 0
@@ -190,6 +226,8 @@ IsOfFiles names (refusal.Path file fault) = ⊥
 IsOfFiles names (refusal.Shape fault) = ⊥
 IsOfFiles names refusal.Write = ⊥
 IsOfFiles names (refusal.Budget budget) = ⊥
+IsOfFiles names (refusal.TimelineBudget timeline budget below) = ⊥
+IsOfFiles names (refusal.MemoryBelow below) = ⊥
 
 -- Within a call, where a plan is made of the joined tree of files with these names: what a refusal may be.
 abbrev pub IsOfModel : List (List ℕ) → Refusal → Type 0
@@ -201,6 +239,8 @@ IsOfModel names (refusal.Path file fault) = IsFaultOf names file fault
 IsOfModel names (refusal.Shape fault) = ¬ (fault ≡ shape_fault.Memory)
 IsOfModel names refusal.Write = ⊥
 IsOfModel names (refusal.Budget budget) = ⊥
+IsOfModel names (refusal.TimelineBudget timeline budget below) = ⊥
+IsOfModel names (refusal.MemoryBelow below) = ⊥
 
 -- Within a call, where a command does its work with the joined tree of files with these names: what a refusal may be.
 abbrev pub IsOfCommand : Command → List (List ℕ) → Refusal → Type 0
@@ -212,17 +252,69 @@ IsOfCommand command names (refusal.Path file fault) = Resolves command × IsFaul
 IsOfCommand command names (refusal.Shape fault) = HasModel command × ¬ (fault ≡ shape_fault.Memory)
 IsOfCommand command names refusal.Write = Unit {0}
 IsOfCommand command names (refusal.Budget budget) = HasBudget command budget
+IsOfCommand command names (refusal.TimelineBudget timeline budget below) = HasTimelineBudget command budget
+IsOfCommand command names (refusal.MemoryBelow below) = HasMiddle command
 
 -- Within a call, where the model of a resolved tree is run: what a refusal may be.
-abbrev pub IsOfRun : ℕ → Refusal → Type 0
-IsOfRun budget refusal.Memory = Unit {0}
-IsOfRun budget refusal.Words = ⊥
-IsOfRun budget (refusal.Read file) = ⊥
-IsOfRun budget (refusal.Dml file fault) = ⊥
-IsOfRun budget (refusal.Path file fault) = ⊥
-IsOfRun budget (refusal.Shape fault) = ¬ (fault ≡ shape_fault.Memory)
-IsOfRun budget refusal.Write = Unit {0}
-IsOfRun budget (refusal.Budget most) = most ≡ budget
+
+abbrev pub IsListBudget : Way → ℕ → ℕ → Type 0
+IsListBudget way.OneList budget most = most ≡ budget
+IsListBudget (way.Timelines mode threshold) budget most = ⊥
+
+abbrev pub IsTimelineBudget : Way → ℕ → ℕ → Type 0
+IsTimelineBudget way.OneList budget most = ⊥
+IsTimelineBudget (way.Timelines mode threshold) budget most = most ≡ budget
+
+abbrev pub IsOnTimelines : Way → Type 0
+IsOnTimelines way.OneList = ⊥
+IsOnTimelines (way.Timelines mode threshold) = Unit {0}
+
+abbrev pub IsOfRun : Running → Refusal → Type 0
+IsOfRun running refusal.Memory = Unit {0}
+IsOfRun running refusal.Words = ⊥
+IsOfRun running (refusal.Read file) = ⊥
+IsOfRun running (refusal.Dml file fault) = ⊥
+IsOfRun running (refusal.Path file fault) = ⊥
+IsOfRun running (refusal.Shape fault) = ¬ (fault ≡ shape_fault.Memory)
+IsOfRun running refusal.Write = Unit {0}
+IsOfRun running (refusal.Budget most) = IsListBudget running.way running.budget most
+IsOfRun running (refusal.TimelineBudget timeline most below) = IsTimelineBudget running.way running.budget most
+IsOfRun running (refusal.MemoryBelow below) = IsOnTimelines running.way
+
+-- where it is run on timelines
+abbrev pub IsOfSteps : ℕ → Refusal → Type 0
+IsOfSteps budget refusal.Memory = Unit {0}
+IsOfSteps budget refusal.Words = ⊥
+IsOfSteps budget (refusal.Read file) = ⊥
+IsOfSteps budget (refusal.Dml file fault) = ⊥
+IsOfSteps budget (refusal.Path file fault) = ⊥
+IsOfSteps budget (refusal.Shape fault) = ¬ (fault ≡ shape_fault.Memory)
+IsOfSteps budget refusal.Write = Unit {0}
+IsOfSteps budget (refusal.Budget most) = ⊥
+IsOfSteps budget (refusal.TimelineBudget timeline most below) = most ≡ budget
+IsOfSteps budget (refusal.MemoryBelow below) = Unit {0}
+
+-- what is told of the run
+abbrev pub IsToldBy : Way → Bool → List ℕ → Type 0
+IsToldBy way.OneList wanted text = IsReport wanted text
+IsToldBy (way.Timelines mode threshold) wanted text = IsLongReport wanted text
+
+abbrev pub windows_text : Option (ℕ × ℕ) → List ℕ
+windows_text None = []
+windows_text (Some windows) = windows_line windows.0 windows.1
+
+-- the text of what is told
+abbrev pub told_text : Told → List ℕ
+told_text told = told.report.items ++ windows_text told.windows
+
+-- what a tally and windows give, where they are wanted
+abbrev pub told_with : Bool → Totals → ℕ → ℕ → List ℕ
+told_with true totals crossed last = report_with totals ++ windows_line crossed last
+told_with false totals crossed last = []
+
+-- nothing is told yet
+abbrev pub IsUntold : Told → Type 0
+IsUntold told = (told.report.items ≡ []) × (told.windows ≡ None)
 
 -- Within a call, where the text of an outcome is written to a sink.
 
@@ -242,17 +334,30 @@ Answers IsDue report answer faults faults' held held' =
     ⊎ (((due : Due) × IsDue due × IsHalt answer faults faults' × AppendsPrefix due.out held held')
     ⊎ ((answer ≡ Err refusal.Memory) × Appends [] held held'))
 
+-- the run was ended in its middle, for want of memory or where a sink failed
+abbrev pub AnswersMidway : (ℕ → List ℕ → Type 0) → Result (Unit {0}) Refusal → ℕ → ℕ → Option (List ℕ) → Option (List ℕ) → Type 0
+AnswersMidway IsMiddle answer faults faults' held held' =
+    (below : ℕ) × (text : List ℕ) × IsMiddle below text
+    × (((answer ≡ Err (refusal.MemoryBelow below)) × Appends text held held') ⊎ ((answer ≡ Err refusal.Write) × Rose faults faults' × AppendsPrefix text held held'))
+
 -- the library failed at a file of this command that is reached, and nothing was written
 abbrev pub IsReadFault : Files → Option Asked → Result (Unit {0}) Refusal → ℕ → ℕ → Option (List ℕ) → Option (List ℕ) → Type 0
 IsReadFault files asked answer faults faults' held held' =
     (name : List ℕ) × IsFileReached files asked name × (answer ≡ Err (refusal.Read name)) × Rose faults faults' × Appends [] held held'
+
+-- memory may be wanted for the line of a refusal
+abbrev pub IsMade : Refusal → Type 0
+IsMade refusal.Write = ⊥
+IsMade (refusal.TimelineBudget timeline budget below) = ⊥
+IsMade (refusal.MemoryBelow below) = ⊥
+IsMade _ = Unit {0}
 
 -- the line of a refusal was written on `err`; or there was no memory for it; or `err` failed, and one of these lines
 -- was cut short
 abbrev pub IsTold : Refusal → ℕ → ℕ → ℕ → Option (List ℕ) → Option (List ℕ) → Type 0
 IsTold r status faults faults' held held' =
     ((status ≡ status_of r) × Appends (refusal_line r) held held')
-    ⊎ (((status ≡ 1) × ¬ (r ≡ refusal.Write) × Appends (refusal_line refusal.Memory) held held')
+    ⊎ (((status ≡ 1) × IsMade r × Appends (refusal_line refusal.Memory) held held')
     ⊎ ((status ≡ 7) × Rose faults faults' × (AppendsPrefix (refusal_line r) held held' ⊎ AppendsPrefix (refusal_line refusal.Memory) held held')))
 
 -- the report made was written on `err`, or there is none; or `err` failed, and it was cut short

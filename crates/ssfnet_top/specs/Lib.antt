@@ -1,6 +1,6 @@
+pub mod Agreeing
 pub mod Counts
 pub mod Ending
 pub mod FilePlaces
 pub mod Outcome
 pub mod Refusals
-pub mod Sending

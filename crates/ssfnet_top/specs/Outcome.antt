@@ -1,6 +1,6 @@
 -- What a command is to answer, by its words and the told files alone: the status, and the bytes that are due on
 -- `out` and on `err`.
-use Rattle.std.specs.Prelude.{ℕ, ◌≡◌, ◌+◌, ◌<◌, ◌≤◌, ◌⊎◌, Bool, true, false, slice_index_or, List, [], ◌∷◌, ◌++◌, Option, Some, None, IsSome, option_map, map, string_bytes, Result, Ok, Err}
+use Rattle.std.specs.Prelude.{ℕ, ◌≡◌, ◌+◌, ◌<◌, ◌≤◌, ◌⊎◌, Bool, true, false, slice_index_or, List, [], ◌∷◌, ◌++◌, Option, Some, None, IsSome, option_map, map, string_bytes, length, codes, decimal, Result, Ok, Err}
 use Rattle.sim_base.specs.Outside.{Files}
 use Rattle.dml_tree.specs.declared.tree.Attribute.{Attribute}
 use Rattle.dml_tree.specs.Attributes.{Attributes, none}
@@ -12,6 +12,7 @@ use Rattle.dml_resolve.specs.declared.resolving.PathFault.{PathFault}
 use Rattle.dml_resolve.specs.declared.resolving.PathFault.TheVariants as path_fault
 use Rattle.dml_resolve.specs.Resolving.{resolved}
 use Rattle.net_graph.specs.declared.fault.ShapeFault.{ShapeFault}
+use Rattle.net_graph.specs.declared.fault.ShapeFault.TheVariants as shape_fault
 use Rattle.net_graph.specs.declared.rows.Network.{Network}
 use Rattle.net_graph.specs.Keys.{has_net}
 use Rattle.net_graph.specs.Reads.{Read, then_read}
@@ -35,14 +36,25 @@ use Rattle.ssf_model.specs.declared.event.Names.{Names}
 use Rattle.ssf_model.specs.declared.plan.Plan.{Plan}
 use Rattle.ssf_model.specs.Reaction.{Reaction}
 use Rattle.ssf_model.specs.Run.{run_event, run_entries}
+use Rattle.ssf_model.specs.Truth.{AreFew}
+use Rattle.alignment.specs.declared.labels.Mode.{Mode}
+use Rattle.alignment.specs.declared.labels.Mode.TheVariants as mode
+use Rattle.alignment.specs.Alignment.{IsAlignment, timeline_count}
+use Rattle.core_traces.specs.Ends.{AreWindows, IsInBudget, EndsBudget}
+use Rattle.step_run.specs.Endings.{AreRecordsBelow, AreAllRecords, OnTimelines, HasStoppedAt}
 use Rattle.trace_writer.specs.Report.{report_of}
 use Rattle.trace_writer.specs.Trace.{entries_text, trace_text}
 use Rattle.model_gen.specs.Campus.{campus_text}
 use Rattle.command_words.specs.declared.command.Command.{Command}
 use Rattle.command_words.specs.declared.command.Command.TheVariants as commands
+use Rattle.command_words.specs.declared.command.Align.{Align}
+use Rattle.command_words.specs.declared.command.Align.TheVariants as align
 use Rattle.command_words.specs.declared.words.Request.{Request}
 use Rattle.ssfnet_top.specs.declared.refusal.Refusal.{Refusal}
 use Rattle.ssfnet_top.specs.declared.refusal.Refusal.TheVariants as refusal
+use Rattle.ssfnet_top.specs.declared.running.Running.{Running}
+use Rattle.ssfnet_top.specs.declared.running.Way.{Way}
+use Rattle.ssfnet_top.specs.declared.running.Way.TheVariants as way
 use Rattle.ssfnet_top.specs.Refusals.{status_of, line_of}
 use Rattle.command_words.specs.Words.{Asked, asked_of_words}
 use Rattle.ssfnet_top.specs.Counts.{network_line, ring_line}
@@ -192,31 +204,120 @@ abbrev pub IsRunDue : {B S P : Type 0} → Reaction S P → Plan B S P → Names
 IsRunDue r plan names until budget wanted due =
     (R : ℕ) → budget ≤ R → IsWithin r plan names until budget wanted R due ⊎ IsOver r plan names until budget R due
 
+-- The run on timelines: `mode` and `threshold` are those of the plan's alignment, and `budget` is that of each timeline. The schedule
+-- decides nothing of what is due.
+
+-- the line of the windows that were crossed, without the first one, and the last of them
+abbrev pub windows_line : ℕ → ℕ → List ℕ
+windows_line crossed last = codes "windows " ++ (decimal crossed ++ (32 ∷ decimal last ++ 10 ∷ []))
+
+-- the report of these events with that line behind it, where one is wanted
+abbrev pub told_if : Bool → List Entry → ℕ → ℕ → List ℕ
+told_if true entries crossed last = report_of entries ++ windows_line crossed last
+told_if false entries crossed last = []
+
+-- no timeline has more events than the budget, and the whole trace is due
+pub record IsWithinOn {B S P : Type 0} (r : Reaction S P) (plan : Plan B S P) (names : Names) (nets : List ℕ) (mode : Mode) (threshold until budget : ℕ) (wanted : Bool) (due : Due) : Type 0 where
+  pub entries : List Entry
+  pub all : AreAllRecords r plan until budget entries
+  pub few : OnTimelines r plan nets mode threshold until budget (λ s. AreFew s budget)
+  pub crossed : ℕ
+  pub last : ℕ
+  pub windows : OnTimelines r plan nets mode threshold until budget (λ s. AreWindows s crossed last)
+  pub whole : due ≡ done_with (told_if wanted entries crossed last) (trace_text names entries until (plan.before + length entries))
+
+-- the budget ends at a timeline, the first where it ends when the run stops, and the records before the time of this event are due
+pub record IsOverOn {B S P : Type 0} (r : Reaction S P) (plan : Plan B S P) (names : Names) (nets : List ℕ) (mode : Mode) (threshold until budget : ℕ) (due : Due) : Type 0 where
+  pub timeline : ℕ
+  pub below : ℕ
+  pub ends : OnTimelines r plan nets mode threshold until budget (λ s. EndsBudget s budget timeline below)
+  pub stopped : HasStoppedAt r plan nets mode threshold until budget timeline
+  pub entries : List Entry
+  pub before : AreRecordsBelow r plan until budget below entries
+  pub first : due ≡ refused (refusal.TimelineBudget timeline budget below) (entries_text names entries)
+
+-- the plan's entities stand on at most 4096 timelines
+abbrev pub HasTimelines : {B S P : Type 0} → Plan B S P → List ℕ → Mode → Type 0
+HasTimelines plan nets mode = (lines : List ℕ) × IsAlignment plan nets mode lines × (timeline_count lines ≤ 4096)
+
+-- they stand on more
+pub record HasTooMany {B S P : Type 0} (plan : Plan B S P) (nets : List ℕ) (mode : Mode) (due : Due) : Type 0 where
+  pub lines : List ℕ
+  pub aligned : IsAlignment plan nets mode lines
+  pub many : 4096 < timeline_count lines
+  pub none : due ≡ refused (refusal.Shape (shape_fault.TooManyTimelines (timeline_count lines))) []
+
+abbrev pub IsDueOn : {B S P : Type 0} → Reaction S P → Plan B S P → Names → List ℕ → Mode → ℕ → ℕ → ℕ → Bool → Due → Type 0
+IsDueOn r plan names nets mode threshold until budget wanted due =
+    (HasTimelines plan nets mode × (IsWithinOn r plan names nets mode threshold until budget wanted due ⊎ IsOverOn r plan names nets mode threshold until budget due))
+    ⊎ HasTooMany plan nets mode due
+
+-- the text of the records before a time, where the run is ended there: no timeline has more events than the budget before it
+pub record IsMidwayOn {B S P : Type 0} (r : Reaction S P) (plan : Plan B S P) (names : Names) (nets : List ℕ) (mode : Mode) (threshold until budget below : ℕ) (text : List ℕ) : Type 0 where
+  pub few : HasTimelines plan nets mode
+  pub in_budget : OnTimelines r plan nets mode threshold until budget (λ s. IsInBudget s budget below)
+  pub entries : List Entry
+  pub before : AreRecordsBelow r plan until budget below entries
+  pub text_is : text ≡ entries_text names entries
+
+-- What is said of a run: it comes to its end, with this due; or it is ended before, with the text of the records before a time.
+pub data Course : Type 0 where
+  Ended : Due → Course
+  Midway : ℕ → List ℕ → Course
+
+-- where nothing is run, for the model has a fault
+abbrev pub IsRefused : Refusal → Course → Type 0
+IsRefused r (Ended due) = due ≡ refused r []
+IsRefused r (Midway below text) = ⊥
+
+-- the course of the run of a plan in this way
+abbrev pub IsCourseBy : {B S P : Type 0} → Way → Reaction S P → Built B S P → ℕ → ℕ → Bool → Course → Type 0
+IsCourseBy way.OneList r built until budget wanted (Ended due) = IsRunDue r built.plan built.names until budget wanted due
+IsCourseBy way.OneList r built until budget wanted (Midway below text) = ⊥
+IsCourseBy (way.Timelines mode threshold) r built until budget wanted (Ended due) = IsDueOn r built.plan built.names built.nets mode threshold until budget wanted due
+IsCourseBy (way.Timelines mode threshold) r built until budget wanted (Midway below text) = IsMidwayOn r built.plan built.names built.nets mode threshold until budget below text
+
+abbrev pub IsCourse : {B S P : Type 0} → Reaction S P → Built B S P → Running → Course → Type 0
+IsCourse r built running course = IsCourseBy running.way r built running.until running.budget running.report course
+
 -- The commands.
 
 -- the run of a ring's plan, or the first fault of the ring
-abbrev pub IsRingRun : ℕ → ℕ → Bool → Read (Built Ring RingState RingPayload) → Due → Type 0
-IsRingRun until budget wanted (Ok built) due = IsRunDue ring_reaction built.plan built.names until budget wanted due
-IsRingRun until budget wanted (Err fault) due = due ≡ refused (refusal.Shape fault) []
+abbrev pub IsRingRun : Running → Read (Built Ring RingState RingPayload) → Course → Type 0
+IsRingRun running (Ok built) course = IsCourse ring_reaction built running course
+IsRingRun running (Err fault) course = IsRefused (refusal.Shape fault) course
 
 -- the run of the plan of a network of hosts, or the first fault of the network
-abbrev pub IsNetworkRun : ℕ → ℕ → Bool → Read Network → Due → Type 0
-IsNetworkRun until budget wanted (Ok network) due =
-    (built : Built Host HostFields PacketFields) × IsPlanOf network built × IsRunDue host_reaction built.plan built.names until budget wanted due
-IsNetworkRun until budget wanted (Err fault) due = due ≡ refused (refusal.Shape fault) []
+abbrev pub IsNetworkRun : Running → Read Network → Course → Type 0
+IsNetworkRun running (Ok network) course = (built : Built Host HostFields PacketFields) × IsPlanOf network built × IsCourse host_reaction built running course
+IsNetworkRun running (Err fault) course = IsRefused (refusal.Shape fault) course
 
 -- the run of a resolved tree, whose model is a Net or not
-abbrev pub IsRunIn : ℕ → ℕ → Bool → Bool → List Attribute → Due → Type 0
-IsRunIn until budget wanted true root due = IsNetworkRun until budget wanted (planned_network root) due
-IsRunIn until budget wanted false root due = IsRingRun until budget wanted (ring_plan_of root) due
+abbrev pub IsRunIn : Running → Bool → List Attribute → Course → Type 0
+IsRunIn running true root course = IsNetworkRun running (planned_network root) course
+IsRunIn running false root course = IsRingRun running (ring_plan_of root) course
 
-abbrev pub IsModelRun : ℕ → ℕ → Bool → Result Attributes Refusal → Due → Type 0
-IsModelRun until budget wanted (Ok tree) due = IsRunIn until budget wanted (has_net (attributes tree)) (attributes tree) due
-IsModelRun until budget wanted (Err r) due = due ≡ refused r []
+abbrev pub IsModelRun : Running → Result Attributes Refusal → Course → Type 0
+IsModelRun running (Ok tree) course = IsRunIn running (has_net (attributes tree)) (attributes tree) course
+IsModelRun running (Err r) course = IsRefused r course
 
 abbrev pub IsPrinted : Result Attributes Refusal → Due → Type 0
 IsPrinted (Ok tree) due = due ≡ done (printing 0 tree)
 IsPrinted (Err r) due = due ≡ refused r []
+
+-- how `seq` runs a model
+abbrev pub by_list : ℕ → ℕ → Bool → Running
+by_list until budget wanted = record { until = until; budget = budget; report = wanted; way = way.OneList }
+
+abbrev pub mode_of : Align → Mode
+mode_of align.One = mode.One
+mode_of align.Host = mode.Host
+mode_of align.Net = mode.Net
+mode_of (align.Parts parts) = mode.Count parts
+
+-- how `step` does
+abbrev pub on_timelines : ℕ → ℕ → Bool → Align → ℕ → Running
+on_timelines until budget wanted aligned threshold = record { until = until; budget = budget; report = wanted; way = way.Timelines (mode_of aligned) threshold }
 
 -- what a request asks
 abbrev pub asked_of : Request → Asked
@@ -234,10 +335,17 @@ IsCommandDue (commands.Dml false) asked tree due = IsPrinted (Ok tree) due
 IsCommandDue (commands.Dml true) asked tree due = IsPrinted (resolved_of asked.files tree) due
 IsCommandDue commands.Check asked tree due = IsText (counts_of (resolved_of asked.files tree)) due
 IsCommandDue commands.Plan asked tree due = IsPlan (resolved_of asked.files tree) due
-IsCommandDue (commands.Seq until budget) asked tree due = IsModelRun until budget asked.report (resolved_of asked.files tree) due
+IsCommandDue (commands.Seq until budget) asked tree due = IsModelRun (by_list until budget asked.report) (resolved_of asked.files tree) (Ended due)
+IsCommandDue (commands.Step until budget aligned threshold) asked tree due = IsModelRun (on_timelines until budget asked.report aligned threshold) (resolved_of asked.files tree) (Ended due)
 IsCommandDue (commands.Gen seed size) asked tree due = IsText (Ok (campus_text seed size)) due
 -- no words ask for the commands that have not landed
 IsCommandDue _ asked tree due = ⊥
+
+-- what stands on `out` where the command is ended in the middle of a run, with the records before a time
+abbrev pub IsCommandMidway : Command → Asked → Attributes → ℕ → List ℕ → Type 0
+IsCommandMidway (commands.Step until budget aligned threshold) asked tree below text =
+    IsModelRun (on_timelines until budget asked.report aligned threshold) (resolved_of asked.files tree) (Midway below text)
+IsCommandMidway _ asked tree below text = ⊥
 
 abbrev pub IsTreeDue : Asked → Result Attributes Refusal → Due → Type 0
 IsTreeDue asked (Ok tree) due = IsCommandDue asked.command asked tree due
@@ -250,3 +358,15 @@ IsAskedDue files (Some asked) due = (tree : Result Attributes Refusal) × AreRea
 -- the outcome of these words with these files
 abbrev pub IsOutcome : Files → List (List ℕ) → Due → Type 0
 IsOutcome files words due = IsAskedDue files (asked_of_words words) due
+
+abbrev pub IsTreeMidway : Asked → Result Attributes Refusal → ℕ → List ℕ → Type 0
+IsTreeMidway asked (Ok tree) below text = IsCommandMidway asked.command asked tree below text
+IsTreeMidway asked (Err r) below text = ⊥
+
+abbrev pub IsAskedMidway : Files → Option Asked → ℕ → List ℕ → Type 0
+IsAskedMidway files None below text = ⊥
+IsAskedMidway files (Some asked) below text = (tree : Result Attributes Refusal) × AreRead files 0 asked.files tree × IsTreeMidway asked tree below text
+
+-- these words with these files may be ended in the middle of a run, with this text of the records before a time
+abbrev pub IsMidway : Files → List (List ℕ) → ℕ → List ℕ → Type 0
+IsMidway files words below text = IsAskedMidway files (asked_of_words words) below text

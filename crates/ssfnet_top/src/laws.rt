@@ -4,11 +4,20 @@ ghost use Rattle.sim_base.specs.Outside.{Files};
 ghost use Rattle.model_gen.specs.Campus.{campus_text};
 ghost use Rattle.command_words.specs.declared.command.Command.TheVariants as commands;
 ghost use Rattle.command_words.specs.Words.{Asked, asked_of_words};
-ghost use Rattle.ssfnet_top.specs.Outcome.{Due, done, IsOutcome};
+ghost use Rattle.ssfnet_top.specs.Outcome.{Due, done, IsOutcome, IsMidway};
+ghost use Rattle.ssfnet_top.specs.Agreeing.{Agree, Begins};
 
-/// The same words with the same files have at most one outcome.
+/// The same words with the same files have at most one outcome. But where a run on timelines ends
+/// since the budget of one ends, and that of another ends at the same time, each of the two may be told: the rest of the
+/// outcome is the same.
 pub fn outcomes_are_one()
-    ensures { (files : Files) (words : List (List ℕ)) (due other : Due) → IsOutcome files words due → IsOutcome files words other → due ≡ other }
+    ensures { (files : Files) (words : List (List ℕ)) (due other : Due) → IsOutcome files words due → IsOutcome files words other → Agree due other }
+{}
+
+/// What stands on `out` where a run is ended in its middle is the first part of what is due there by every outcome
+/// of the same words with the same files.
+pub fn middles_begin_outcomes()
+    ensures { (files : Files) (words : List (List ℕ)) (below : ℕ) (text : List ℕ) (due : Due) → IsMidway files words below text → IsOutcome files words due → Begins text due.out }
 {}
 
 /// The outcome of the words of `gen` is the text of a campus, whatever the files are.

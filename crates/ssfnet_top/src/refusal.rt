@@ -3,7 +3,6 @@ ghost use Rattle.std.specs.Prelude.{◌≡◌, ◌++◌, ◌∷◌, [], ℕ, len
 ghost use Rattle.ssfnet_top.specs.Refusals.{printable, printable_byte, status_of, line_of, placed_text, path_fault_text, tree_fault_text, shape_fault_text};
 ghost use Rattle.nhi_address.specs.NhiText.{nhi_text};
 
-use crate::sending::SendEnd;
 use dml_resolve::PathFault;
 use dml_tree::{Place, TreeFault};
 use net_graph::ShapeFault;
@@ -20,16 +19,32 @@ pub enum Refusal {
     /// The file of this name could not be read.
     Read(Text),
     /// The file of this name is no DML.
-    Dml { file: Text, fault: TreeFault },
+    Dml {
+        file: Text,
+        fault: TreeFault,
+    },
     /// A substitution has this fault, which stands in the file of this name; a fault without a place
     /// names none.
-    Path { file: Text, fault: PathFault },
+    Path {
+        file: Text,
+        fault: PathFault,
+    },
     /// The model has this fault.
     Shape(ShapeFault),
     /// The output could not be written.
     Write,
     /// The run has more events than this budget.
     Budget(u64),
+    /// This timeline has more events than the budget, and no timeline has event number `budget`, counted from 0,
+    /// before the time `below`, in ticks.
+    TimelineBudget {
+        timeline: u32,
+        budget: u64,
+        below: u64,
+    },
+    /// There was no memory to go on with a run on timelines. The records with times below this one, in
+    /// ticks, were written.
+    MemoryBelow(u64),
 }
 
 impl From<Memory> for Refusal {
@@ -59,21 +74,6 @@ impl From<ShapeFault> for Refusal {
     }
 }
 
-impl From<SendEnd> for Refusal {
-    ghost use Rattle.std.specs.Prelude.{◌≡◌, ◌⊎◌};
-    ghost use Rattle.ssfnet_top.specs.declared.refusal.Refusal.TheVariants as refusal;
-    ghost use Rattle.ssfnet_top.specs.declared.sending.SendEnd.TheVariants as end;
-
-    ghost from_gives = { λ e r. ((e ≡ end.Memory) × (r ≡ refusal.Memory)) ⊎ ((e ≡ end.Failed) × (r ≡ refusal.Write)) };
-
-    fn from(end: SendEnd) -> Refusal {
-        match end {
-            SendEnd::Memory => Refusal::Memory,
-            SendEnd::Failed => Refusal::Write,
-        }
-    }
-}
-
 impl Refusal {
     /// The status with which the program ends.
     pub fn status(&self) -> u8
@@ -88,6 +88,8 @@ impl Refusal {
             Refusal::Shape(_) => 6,
             Refusal::Write => 7,
             Refusal::Budget(_) => 8,
+            Refusal::TimelineBudget { .. } => 8,
+            Refusal::MemoryBelow(_) => 1,
         }
     }
 
@@ -108,6 +110,12 @@ impl Refusal {
             Refusal::Shape(fault) => push_shape(out, fault)?,
             Refusal::Write => push(out, b"write")?,
             Refusal::Budget(budget) => push_count(out, b"budget list ", *budget)?,
+            Refusal::TimelineBudget {
+                timeline,
+                budget,
+                below,
+            } => push_timeline(out, *timeline, *budget, *below)?,
+            Refusal::MemoryBelow(below) => push_count(out, b"memory below ", *below)?,
         }
         push(out, b"\n")
     }
@@ -145,6 +153,15 @@ fn push_count(out: &mut Vec<u8>, front: &[u8], count: u64) -> Result<(), Memory>
 {
     push(out, front)?;
     push_number(out, count)
+}
+
+/// Appends the words of a timeline that has more events than a budget.
+fn push_timeline(out: &mut Vec<u8>, timeline: u32, budget: u64, below: u64) -> Result<(), Memory>
+    ensures { OnOk result (out.new.items ≡ out.old.items ++ (codes "budget timeline " ++ (decimal timeline ++ (32 ∷ decimal budget ++ (codes " below " ++ decimal below))))) }
+{
+    push_count(out, b"budget timeline ", u64::from(timeline))?;
+    push_count(out, b" ", budget)?;
+    push_count(out, b" below ", below)
 }
 
 /// Appends some bytes and an NHI.

@@ -1,24 +1,28 @@
 //! The top call: from words and files to the bytes written and the status.
-ghost use Rattle.std.specs.Prelude.{◌≡◌, ◌≤◌, ◌⊎◌, ◌++◌, ◌∷◌, [], None, Some, map, string_bytes, IfOk, IfErr, IfSome, IsErrAnd, OnOk};
+ghost use Rattle.std.specs.Prelude.{◌≡◌, ◌≤◌, ◌⊎◌, ◌++◌, ◌∷◌, ℕ, List, [], true, None, Some, option_map, map, string_bytes, IfOk, IfErr, IfSome, IsErrAnd, OnOk, OnErr};
 ghost use Rattle.sim_base.specs.Outside.{Rose, Appends, AppendsPrefix};
 ghost use Rattle.ssfnet_top.specs.declared.refusal.Refusal.{Refusal as RefusalValue};
 ghost use Rattle.command_words.specs.Table.{MostFiles};
-ghost use Rattle.command_words.specs.Words.{asked_of_words, IsInRange, IsLanded};
+ghost use Rattle.command_words.specs.Schedule.{is_schedule};
+ghost use Rattle.command_words.specs.Words.{asked_of_words, IsAlignInRange, IsInRange, IsLanded};
 ghost use Rattle.ssfnet_top.specs.Refusals.{status_of, line_of};
-ghost use Rattle.ssfnet_top.specs.Outcome.{asked_of, IsCommandDue, IsOutcome, refusal_line};
+ghost use Rattle.ssfnet_top.specs.Outcome.{asked_of, mode_of, windows_line, IsCommandDue, IsCommandMidway, IsOutcome, IsMidway, refusal_line};
 ghost use Rattle.ssfnet_top.specs.FilePlaces.{ArePlaced};
-ghost use Rattle.ssfnet_top.specs.Ending.{Ends, Concerns, Answers, IsReadFault, IsOfCommand, IsOfModel, IsTold, IsLineCut, IsReportCut, IsReportTold, IsToldOf, HasGenerated, HasTold, Tells, WantsReport};
+ghost use Rattle.ssfnet_top.specs.Ending.{Ends, Concerns, Answers, AnswersMidway, IsMade, IsUntold, told_text, IsReadFault, IsOfCommand, IsOfModel, IsTold, IsLineCut, IsReportCut, IsReportTold, IsToldOf, HasGenerated, HasTold, Tells, WantsReport};
 
 use crate::Refusal;
 use crate::checking::print_counts;
 use crate::files::read_files;
 use crate::generating::print_campus;
+use crate::model::{run_model, run_scheduled};
 use crate::planning::print_plan;
 use crate::printing::{print_resolved, print_tree};
-use crate::seq::run_model;
-use command_words::{Command, Request, WordsFault, read_words};
+use crate::running::{Running, Told, Way};
+use crate::telling::{write_below, write_timeline, write_windows};
+use alignment::Mode;
+use command_words::{Align, Command, Request, WordsFault, read_words};
 use dml_tree::Tree;
-use sim_base::{Library, Sink, write_all};
+use sim_base::{Failed, Library, Sink, write_all};
 use std::alloc::Global;
 
 /// The status with which the program ends where there was no memory.
@@ -27,18 +31,21 @@ const MEMORY_STATUS: u8 = 1;
 /// The status with which the program ends where a sink failed.
 const WRITE_STATUS: u8 = 7;
 
+/// The status with which the program ends where a run has more events than its budget.
+const BUDGET_STATUS: u8 = 8;
+
 /// Answers a command: reads the files that the words name from the library, writes what is due on
 /// `out`, and then on `err` the report that is asked or the line of a refusal, and answers the status
 /// with which the program ends.
 ///
 /// The commands are `dml` (the printing of the files' tree), `check` (how many parts the model has),
 /// `plan` (the text of the model's plan), `seq` (the trace of the model's run by one event list, and
-/// its report) and `gen` (the text of a generated model, for which no file is read).
+/// its report), `step` (the same by steps of timelines on one thread, and the windows) and `gen` (the text of a generated model, for which no file is read).
 ///
 /// The words are those after the program's name. The statuses are 0 where the whole output was
 /// written, 1 where there was no memory, 2 for words that are not those of a command, 3 for a file
 /// that could not be read, 4 for a file that is no DML, 5 for a substitution with a fault, 6 for a
-/// model with a fault, 7 where a sink failed, and 8 where the run has more events than its budget.
+/// model with a fault, 7 where a sink failed, and 8 where the run, or a timeline of it, has more events than the budget.
 pub fn offline<L: Library, K: Sink, J: Sink>(
     alloc: Global,
     words: &[String],
@@ -61,25 +68,29 @@ pub fn offline<L: Library, K: Sink, J: Sink>(
     ensures line { (result ≡ 0) ⊎ (((result ≡ 7) × (IsLineCut (asked_of_words (map string_bytes words.now)) (J.faults err.old) (J.faults err.new) (J.held err.old) (J.held err.new)
         ⊎ IsReportCut (asked_of_words (map string_bytes words.now)) (J.faults err.old) (J.faults err.new) (J.held err.old) (J.held err.new))) ⊎ ((r : RefusalValue) × (status_of r ≡ result) × Concerns (asked_of_words (map string_bytes words.now)) r × Appends (refusal_line r) (J.held err.old) (J.held err.new))) }
 {
-    let mut report = Vec::new(alloc);
-    match answer(alloc, words, library, out, &mut report) {
-        Ok(()) => tell_report(report.as_slice(), err),
+    let mut told = Told {
+        report: Vec::new(alloc),
+        windows: None,
+    };
+    match answer(alloc, words, library, out, &mut told) {
+        Ok(()) => tell_report(&told, err),
         Err(refusal) => tell(alloc, &refusal, err),
     }
 }
 
-/// Answers a command, but for what is written on `err`: it appends the report that is asked to `report`,
-/// and the line of a refusal is left to the caller.
+/// Answers a command, but for what is written on `err`: it tells the report that is asked, and the line of a refusal
+/// is left to the caller.
 fn answer<L: Library, K: Sink>(
     alloc: Global,
     words: &[String],
     library: &mut L,
     out: &mut K,
-    report: &mut Vec<u8>,
+    told: &mut Told,
 ) -> Result<(), Refusal>
-    requires empty { report.old.items ≡ [] }
-    ensures outcome { IfSome (L.files library.old) (λ told. Answers (IsOutcome told (map string_bytes words.now)) report.new.items result (K.faults out.old) (K.faults out.new) (K.held out.old) (K.held out.new)
-        ⊎ IsReadFault told (asked_of_words (map string_bytes words.now)) result (L.faults library.old) (L.faults library.new) (K.held out.old) (K.held out.new)) }
+    requires untold { IsUntold told.old }
+    ensures outcome { IfSome (L.files library.old) (λ files. Answers (IsOutcome files (map string_bytes words.now)) (told_text told.new) result (K.faults out.old) (K.faults out.new) (K.held out.old) (K.held out.new)
+        ⊎ (IsReadFault files (asked_of_words (map string_bytes words.now)) result (L.faults library.old) (L.faults library.new) (K.held out.old) (K.held out.new)
+        ⊎ AnswersMidway (IsMidway files (map string_bytes words.now)) result (K.faults out.old) (K.faults out.new) (K.held out.old) (K.held out.new))) }
     ensures concerns { IfErr result (λ r. Concerns (asked_of_words (map string_bytes words.now)) r) }
     ensures words { asked_of_words (map string_bytes words.now) ≡ None → IsErrAnd result (λ r. (r ≡ Refusal.Memory) ⊎ (r ≡ Refusal.Words)) }
     ensures refused { asked_of_words (map string_bytes words.now) ≡ None → Appends [] (K.held out.old) (K.held out.new) }
@@ -87,7 +98,7 @@ fn answer<L: Library, K: Sink>(
     ensures write { IfErr result (λ r. r ≡ Refusal.Write → Rose (K.faults out.old) (K.faults out.new)) }
     ensures nothing { IfErr result (λ r. 2 ≤ status_of r → status_of r ≤ 6 → Appends [] (K.held out.old) (K.held out.new)) }
     ensures generated { OnOk result (HasGenerated (asked_of_words (map string_bytes words.now)) (K.held out.old) (K.held out.new)) }
-    ensures told { OnOk result (IsToldOf (asked_of_words (map string_bytes words.now)) report.new.items) }
+    ensures told { OnOk result (IsToldOf (asked_of_words (map string_bytes words.now)) (told_text told.new)) }
 {
     let request = match read_words(alloc, words) {
         Ok(request) => request,
@@ -95,28 +106,30 @@ fn answer<L: Library, K: Sink>(
         Err(WordsFault::Memory) => return Err(Refusal::Memory),
     };
     match read_files(alloc, library, request.files.as_slice()) {
-        Ok(tree) => act(alloc, &request, &tree, out, report),
+        Ok(tree) => act(alloc, &request, &tree, out, told),
         Err(refusal) => Err(refusal),
     }
 }
 
-/// Does what is asked with the joined tree of the files, and appends the report that is asked.
+/// Does what is asked with the joined tree of the files, and tells the report that is asked.
 fn act<K: Sink>(
     alloc: Global,
     request: &Request,
     tree: &Tree,
     out: &mut K,
-    report: &mut Vec<u8>,
+    told: &mut Told,
 ) -> Result<(), Refusal>
     requires range { IsInRange request.now.command }
     requires landed { IsLanded request.now.command }
     requires placed { ArePlaced (map string_bytes request.now.files.items) tree.now }
-    requires empty { report.old.items ≡ [] }
-    ensures due { Answers (IsCommandDue request.now.command (asked_of request.now) tree.now) report.new.items result (K.faults out.old) (K.faults out.new) (K.held out.old) (K.held out.new) }
+    requires untold { IsUntold told.old }
+    requires spelt { (word : List ℕ) → option_map string_bytes request.now.schedule ≡ Some word → is_schedule word ≡ true }
+    ensures due { Answers (IsCommandDue request.now.command (asked_of request.now) tree.now) (told_text told.new) result (K.faults out.old) (K.faults out.new) (K.held out.old) (K.held out.new)
+        ⊎ AnswersMidway (IsCommandMidway request.now.command (asked_of request.now) tree.now) result (K.faults out.old) (K.faults out.new) (K.held out.old) (K.held out.new) }
     ensures cause { IfErr result (λ r. IsOfCommand request.now.command (map string_bytes request.now.files.items) r) }
     ensures write { IfErr result (λ r. r ≡ Refusal.Write → Rose (K.faults out.old) (K.faults out.new)) }
     ensures nothing { IfErr result (λ r. IsOfModel (map string_bytes request.now.files.items) r → ¬ (r ≡ Refusal.Memory) → Appends [] (K.held out.old) (K.held out.new)) }
-    ensures told { OnOk result (Tells request.now.command request.now.report report.new.items) }
+    ensures told { OnOk result (Tells request.now.command request.now.report (told_text told.new)) }
 {
     let names = request.files.as_slice();
     match request.command {
@@ -125,23 +138,90 @@ fn act<K: Sink>(
         Command::Check => print_counts(alloc, names, tree, out),
         Command::Plan => print_plan(alloc, names, tree, out),
         Command::Seq { until, budget } => {
-            let wanted = request.report;
-            run_model(alloc, until, budget, wanted, names, tree, out, report)
+            let running = Running {
+                until,
+                budget,
+                report: request.report,
+                way: Way::OneList,
+            };
+            run_model(alloc, &running, &[], names, tree, out, told)
         }
-        Command::Step { .. } => unreachable!(),
+        Command::Step {
+            until,
+            budget,
+            align,
+            threshold,
+        } => {
+            let running = Running {
+                until,
+                budget,
+                report: request.report,
+                way: Way::Timelines {
+                    mode: mode_of(align),
+                    threshold,
+                },
+            };
+            run_scheduled(alloc, &running, &request.schedule, names, tree, out, told)
+        }
         Command::Run { .. } => unreachable!(),
         Command::Gen { seed, size } => print_campus(alloc, seed, size, out),
     }
 }
 
+/// The mode of an alignment.
+fn mode_of(align: Align) -> Mode
+    requires { IsAlignInRange align }
+    ensures { result ≡ mode_of align }
+{
+    match align {
+        Align::One => Mode::One,
+        Align::Host => Mode::Host,
+        Align::Net => Mode::Net,
+        Align::Parts(parts) => Mode::Count(parts as u32),
+    }
+}
+
+/// Writes what is told, where there is something, and answers the status with which the program ends.
+fn tell_report<J: Sink>(told: &Told, err: &mut J) -> u8
+    ensures { IsReportTold (told_text told.now) result (J.faults err.old) (J.faults err.new) (J.held err.old) (J.held err.new) }
+{
+    match told.windows {
+        None => tell_sums(told.report.as_slice(), err),
+        Some((crossed, last)) => {
+            status_by(tell_both(told.report.as_slice(), crossed, last, err), 0)
+        }
+    }
+}
+
 /// Writes a report, where there is one, and answers the status with which the program ends.
-fn tell_report<J: Sink>(report: &[u8], err: &mut J) -> u8
+fn tell_sums<J: Sink>(report: &[u8], err: &mut J) -> u8
     ensures { IsReportTold report.now result (J.faults err.old) (J.faults err.new) (J.held err.old) (J.held err.new) }
 {
     if report.is_empty() {
         return 0;
     }
     say(report, 0, err)
+}
+
+/// Writes a report and the line of windows.
+fn tell_both<J: Sink>(report: &[u8], crossed: u64, last: u64, err: &mut J) -> Result<(), Failed>
+    ensures all { OnOk result (Appends (report.now ++ windows_line crossed last) (J.held err.old) (J.held err.new)) }
+    ensures part { OnErr result (AppendsPrefix (report.now ++ windows_line crossed last) (J.held err.old) (J.held err.new)) }
+    ensures cause { OnErr result (Rose (J.faults err.old) (J.faults err.new)) }
+{
+    write_all(err, report)?;
+    write_windows(crossed, last, err)
+}
+
+/// The status with which the program ends where this was written, and would end with `status`.
+fn status_by(written: Result<(), Failed>, status: u8) -> u8
+    ensures well { OnOk written (result ≡ status) }
+    ensures failed { OnErr written (result ≡ WRITE_STATUS) }
+{
+    match written {
+        Ok(()) => status,
+        Err(_failed) => WRITE_STATUS,
+    }
 }
 
 /// Writes the line of a refusal, and answers the status with which the program ends.
@@ -151,13 +231,22 @@ fn tell<J: Sink>(alloc: Global, refusal: &Refusal, err: &mut J) -> u8
     match refusal {
         Refusal::Memory => say(b"memory\n", MEMORY_STATUS, err),
         Refusal::Write => say(b"write\n", WRITE_STATUS, err),
+        Refusal::MemoryBelow(below) => status_by(write_below(*below, err), MEMORY_STATUS),
+        Refusal::TimelineBudget {
+            timeline,
+            budget,
+            below,
+        } => status_by(
+            write_timeline(*timeline, *budget, *below, err),
+            BUDGET_STATUS,
+        ),
         _ => tell_cause(alloc, refusal, err),
     }
 }
 
 /// Makes the line of a refusal and writes it; without memory for it, says so.
 fn tell_cause<J: Sink>(alloc: Global, refusal: &Refusal, err: &mut J) -> u8
-    requires { ¬ (refusal.now ≡ Refusal.Write) }
+    requires { IsMade refusal.now }
     ensures { IsTold refusal.now result (J.faults err.old) (J.faults err.new) (J.held err.old) (J.held err.new) }
 {
     let mut line = Vec::new(alloc);

@@ -1,7 +1,7 @@
 use Rattle.std.proofs.Common.{map, string_bytes}
-use Rattle.ssfnet_top.specs.Ending.{Outside}
+use Rattle.ssfnet_top.specs.Ending.{Outside, told_text}
 use Rattle.command_words.specs.Words.{asked_of_words}
-use Rattle.ssfnet_top.proofs.Endings.{told_refused, told_line, told_well, told_as, report_line, report_quiet, report_told}
+use Rattle.ssfnet_top.proofs.Endings.{told_refused, told_line, told_well, report_line, report_quiet, report_told}
 use Rattle.ssfnet_top.proofs.top.offline.Goals as goal
 
 pub returns-in-Ok-clause-outcome : goal.returns-in-Ok-clause-outcome
@@ -20,9 +20,9 @@ returns-in-Ok-clause-outcome g c =
       out = g.K.Sink.held c.answer.new.out;
       err = g.J.Sink.held c.tell_report.new.err;
     } in
-    let report = c.answer.new.report.items in
+    let report = (told_text c.answer.new.told) in
     told_well (g.L.Library.files c.args.library.now) (map string_bytes c.args.words.now) before after report tt c.tell_report.result c.in-Ok.ensures.outcome c.in-Ok.ensures.told
-    (told_as c.as_slice.result.now report c.tell_report.result _ _ _ _ c.as_slice.ensures.value c.tell_report.ensures)
+    c.tell_report.ensures
 
 pub returns-clause-outcome : goal.returns-clause-outcome
 returns-clause-outcome g c =
@@ -40,7 +40,7 @@ returns-clause-outcome g c =
       out = g.K.Sink.held c.answer.new.out;
       err = g.J.Sink.held c.tell.new.err;
     } in
-    told_refused (g.L.Library.files c.args.library.now) (map string_bytes c.args.words.now) before after c.answer.new.report.items c.in-Err.refusal c.tell.result c.in-Err.ensures.outcome c.in-Err.ensures.concerns c.tell.ensures
+    told_refused (g.L.Library.files c.args.library.now) (map string_bytes c.args.words.now) before after (told_text c.answer.new.told) c.in-Err.refusal c.tell.result c.in-Err.ensures.outcome c.in-Err.ensures.concerns c.tell.ensures
 
 pub returns-clause-line : goal.returns-clause-line
 returns-clause-line g c =
@@ -49,18 +49,18 @@ returns-clause-line g c =
 
 pub returns-in-Ok-clause-line : goal.returns-in-Ok-clause-line
 returns-in-Ok-clause-line g c =
-    let report = c.answer.new.report.items in
+    let report = (told_text c.answer.new.told) in
     report_line (asked_of_words (map string_bytes c.args.words.now)) report c.tell_report.result _ _ _ _ c.in-Ok.ensures.told
-    (told_as c.as_slice.result.now report c.tell_report.result _ _ _ _ c.as_slice.ensures.value c.tell_report.ensures)
+    c.tell_report.ensures
 
 pub returns-in-Ok-clause-quiet : goal.returns-in-Ok-clause-quiet
 returns-in-Ok-clause-quiet g c =
-    let report = c.answer.new.report.items in
+    let report = (told_text c.answer.new.told) in
     report_quiet (asked_of_words (map string_bytes c.args.words.now)) report c.tell_report.result _ _ _ _ c.in-Ok.ensures.told
-    (told_as c.as_slice.result.now report c.tell_report.result _ _ _ _ c.as_slice.ensures.value c.tell_report.ensures)
+    c.tell_report.ensures
 
 pub returns-in-Ok-clause-reported : goal.returns-in-Ok-clause-reported
 returns-in-Ok-clause-reported g c =
-    let report = c.answer.new.report.items in
+    let report = (told_text c.answer.new.told) in
     report_told (asked_of_words (map string_bytes c.args.words.now)) report c.tell_report.result _ _ _ _ c.in-Ok.ensures.told
-    (told_as c.as_slice.result.now report c.tell_report.result _ _ _ _ c.as_slice.ensures.value c.tell_report.ensures)
+    c.tell_report.ensures
