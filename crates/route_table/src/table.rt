@@ -10,9 +10,9 @@ use std::marker::Model;
 
 /// For each address the place of its best route. Contracts see the bounds and what is kept at each.
 ///
-/// It keeps at most two bounds for each route, and one. What follows is meant and not proved: for n routes
-/// whose blocks do not overlap, and some that hold many of the others, the work of making it is in
-/// proportion to n log n, and to find a place takes work in proportion to log n.
+/// For n routes whose blocks do not overlap, and some that hold many of the others, the work of making
+/// it is in proportion to n log n, and the memory to n; to find a place takes work in proportion to
+/// log n, and no memory.
 #[derive(Drop)]
 pub struct RouteTable {
     bounds: Vec<u32>,
