@@ -80,6 +80,7 @@ module _ {B S P : Type 0} where
       over = tt;
       budget_ends = tt;
       stopped = tt;
+      inside = tt;
       memory_below = tt;
       in_budget = tt;
       part = tt;
@@ -93,6 +94,7 @@ module _ {B S P : Type 0} where
       trace = tt;
       few = tt;
       windows = tt;
+      inside = tt;
       memory_below = tt;
       in_budget = tt;
       part = tt;
@@ -100,6 +102,7 @@ module _ {B S P : Type 0} where
       few_timelines = tt;
     }
     end_told own (MemoryBelow below) h = record {
+      inside = h.inside;
       memory_below = h.written;
       in_budget = on_lines r until task own (λ s. IsInBudget s task.budget below) h.in_budget;
       trace = tt;
@@ -122,6 +125,7 @@ module _ {B S P : Type 0} where
       over = tt;
       budget_ends = tt;
       stopped = tt;
+      inside = tt;
       memory_below = tt;
       in_budget = tt;
       nothing = tt;
@@ -138,6 +142,7 @@ module _ {B S P : Type 0} where
       over = tt;
       budget_ends = tt;
       stopped = tt;
+      inside = tt;
       memory_below = tt;
       in_budget = tt;
       part = tt;

@@ -82,6 +82,7 @@ module _ {B S P : Type 0} (valid : B → Validity S) (carried : B → P → Type
 
     pub ends_short : (then : Output) → Appends [] now.held then.held → IsHalted (reaction task.plan.behaviour) names until task told.below first then
     ends_short then text = record {
+      inside = w.inside;
       written = record {
         entries = w.entries;
         are = w.before;

@@ -1,6 +1,6 @@
 -- How a run by steps goes on from one piece of its trace to the next. The laws of pieces of a trace are taken as they are
 -- told.
-use Rattle.std.proofs.Common.{◌≡◌, ℕ, ◌+◌, ◌<◌, ◌≤◌, Bool, true, false, List, [], ◌∷◌, ◌++◌, length, min, Option, refl, sym, ap, ◌∙◌, subst, inl, arith, append_assoc, length-append, Result, Ok, Err, IfOk, ◌↔◌}
+use Rattle.std.proofs.Common.{◌≡◌, ℕ, ◌+◌, ◌<◌, ◌≤◌, Bool, true, false, List, [], ◌∷◌, ◌++◌, length, min, map, Option, Some, refl, sym, ap, ◌∙◌, subst, inl, arith, append_assoc, length-append, Result, Ok, Err, IfOk, ◌↔◌}
 use Rattle.std.proofs.lemmas.Option.{slice_get_within, slice_get-get_or}
 use Rattle.std.proofs.lemmas.Grind.{flat_map-append}
 use Rattle.event_order.specs.declared.key.Key.{Key}
@@ -27,10 +27,13 @@ use Rattle.timeline.specs.Sound.{IsRunOnLines}
 use Rattle.core_rules.specs.Cores.{CoreView, IsCoreOfRun, IsSoundFor}
 use Rattle.core_rules.specs.Stepping.{without_below}
 use Rattle.core_rules.specs.Leading.{AreCoreSteps}
-use Rattle.core_rules.specs.Reading.{safe_bound_in, BudgetEndsIn}
+use Rattle.core_rules.specs.Reading.{safe_bound_in, least_low_in, BudgetEndsIn}
 use Rattle.core_rules.proofs.Crosses.{window_round}
 use Rattle.core_rules.proofs.Lists.{map_length}
 use Rattle.timeline.specs.Moving.{without}
+use Rattle.timeline.specs.Holding.{low_in}
+use Rattle.timeline.specs.View.{TimelineOf}
+use Rattle.sync_steps.specs.declared.steps.Step.{Step}
 use Rattle.core_traces.specs.Records.{AreEntriesBelow, AreAllEntries}
 use Rattle.core_traces.specs.Kept.{run_on, histories_of, IsCoreFrom, OfEachCoreFrom, HaveGrown}
 use Rattle.core_traces.specs.Ends.{AreWindows, IsInBudget, EndsBudget}
@@ -38,10 +41,10 @@ use Rattle.sim_base.specs.declared.outside.Memory.{Memory as NoMemory}
 use Rattle.sync_core.specs.declared.driving.DriveEnd.{DriveEnd}
 use Rattle.sync_core.specs.declared.driving.DriveEnd.TheVariants as drive
 use Rattle.sync_core.specs.declared.driving.Driven.{Driven}
-use Rattle.sync_core.specs.Driving.{IsOnward, EndsFirstAt}
+use Rattle.sync_core.specs.Driving.{IsOnward, EndsFirstAt, AreTries}
 use Rattle.step_run.specs.Telling.{MostCounted, Told, IsTallied}
 use Rattle.step_run.specs.Endings.{AreRecordsBelow, AreAllRecords, IsWrittenBelow, IsPartWritten}
-use Rattle.step_run.specs.Going.{Task, Output, IsGiven, KeepsFrom, IsUnderWay, IsWhole, IsOver, IsHalted, HasAdvanced, HasCause, IfFurther, outcome_at, outcome}
+use Rattle.step_run.specs.Going.{Task, Output, IsGiven, KeepsFrom, IsUnderWay, IsWhole, IsOver, IsHalted, HasAdvanced, HasCause, IfFurther, IsDrivenOn, outcome_at, outcome}
 use Rattle.step_run.proofs.Beginning.{on_lines}
 use Rattle.step_run.specs.declared.running.Advanced.{Advanced}
 use Rattle.step_run.specs.declared.running.Advanced.TheVariants.{Further, Whole, Ended}
@@ -69,6 +72,11 @@ tally_goes_on a b c xs ys p q told first = q (told ++ xs) (p told first) ∙ ap 
 
 count_goes_on : (count more : ℕ) (xs ys : List Entry) → count ≡ min (length xs) MostCounted → more ≡ min (count + length ys) MostCounted → more ≡ min (length (xs ++ ys)) MostCounted
 count_goes_on count more xs ys p q = omega (arith, length-append xs ys)
+
+-- no lower bound is after the end
+low_most : {B S P : Type 0} (end : ℕ) (ts : List (TimelineOf B S P)) → least_low_in end ts ≤ end
+low_most end [] = omega arith
+low_most end (t ∷ ts) = let rest = low_most end ts in omega (arith, rest)
 
 module _ {B S P : Type 0} (valid : B → Validity S) (carried : B → P → Type 0) (reaction : B → Reaction S P) where
   -- ---- the laws
@@ -136,6 +144,14 @@ module _ {B S P : Type 0} (valid : B → Validity S) (carried : B → P → Type
           let rises = laws.safe own task.plan until (within task.budget) (line_of task.lines) (net task.budget) given.fits given.in_time task.budget core from here mid (at_own core mid from keeps driven.steps) in
           let safe = here.safe in
           omega arith
+
+      -- it is at most a tick after the end
+      pub bound_in_time : safe_bound_in mid ≤ until + 1
+      bound_in_time =
+          let here = keeps_on task.budget (omega arith) in
+          let last : mid.until ≡ until = here.sound.until in
+          let most = low_most (mid.until + 1) mid.timelines in
+          omega (arith, last, most)
 
       pub keeps_less : KeepsFrom (reaction own) until task (without_below (safe_bound_in mid) mid) (safe_bound_in mid)
       keeps_less most low =
@@ -248,6 +264,7 @@ module _ {B S P : Type 0} (valid : B → Validity S) (carried : B → P → Type
           → IsWhole (reaction own) names until task more mid.barrier.round mid.barrier.window first then
       is_whole ended more then at counted text tallied = record {
         entries = under.entries ++ piece;
+        inside = (let low = bound_in_time core mid told.below under.keeps driven in omega (arith, at, low));
         before = below_then more at;
         all = whole_records core mid told.below under.keeps driven ended (under.entries ++ piece) below_now;
         counted = count_goes_on told.count more.count under.entries piece under.counted counted;
@@ -274,14 +291,17 @@ module _ {B S P : Type 0} (valid : B → Validity S) (carried : B → P → Type
         stopped = record {
           core = mid;
           first = ends;
-          from = told.below;
-          run = λ lines most aligned low. subst (λ ls. IsCoreFrom task.plan (line_of ls) (run_on (reaction own) task.plan ls task.threshold until (within most)) task.budget mid told.below)
-              (alignment_one task.plan task.nets task.mode task.lines lines given.aligned aligned) (keeps_on core mid told.below under.keeps driven most low);
+          has_budget = (keeps_on core mid told.below under.keeps driven task.budget (omega arith)).most;
+          sound = λ lines most aligned low.
+              let here = keeps_on core mid told.below under.keeps driven most low in
+              subst (λ ls. (at : ℕ → ℕ) × (before : ℕ) × IsSoundFor task.plan (line_of ls) (run_on (reaction own) task.plan ls task.threshold until (within most)) mid at before)
+              (alignment_one task.plan task.nets task.mode task.lines lines given.aligned aligned) (here.at, here.before, here.sound);
         };
       }
 
       pub is_halted : (then : Output) → Appends (entries_text names piece) now.held then.held → IsHalted (reaction own) names until task (safe_bound_in mid) first then
       is_halted then text = record {
+        inside = bound_in_time core mid told.below under.keeps driven;
         written = is_below then text;
         in_budget = within_on core mid told.below under.keeps driven;
       }
@@ -290,6 +310,7 @@ module _ {B S P : Type 0} (valid : B → Validity S) (carried : B → P → Type
           → IsPartWritten (reaction own) task.plan names task.nets task.mode task.threshold until task.budget first.held then.held
       is_cut then text = inl (record {
         below = safe_bound_in mid;
+        inside = bound_in_time core mid told.below under.keeps driven;
         in_budget = on_lines (reaction own) until task given.aligned (λ s. IsInBudget s task.budget (safe_bound_in mid)) (within_on core mid told.below under.keeps driven);
         entries = under.entries ++ piece;
         are = below_now;
@@ -299,6 +320,11 @@ module _ {B S P : Type 0} (valid : B → Validity S) (carried : B → P → Type
       -- nothing of the piece was written
       pub is_as_before : (then : Output) → Appends [] now.held then.held → IsHalted (reaction own) names until task told.below first then
       is_as_before then text = record {
+        inside = (let here = under.keeps task.budget (omega arith) in
+            let last : core.until ≡ until = here.sound.until in
+            let top = here.safe in
+            let most = low_most (core.until + 1) core.timelines in
+            omega (arith, last, top, most));
         written = record {
           entries = under.entries;
           are = under.before;
@@ -339,6 +365,18 @@ module _ {B S P : Type 0} (valid : B → Validity S) (carried : B → P → Type
           by_end drive.Crossed used fin ov =
               subst (λ (c : CoreView B S P). IsUnderWay (reaction own) names until task c more first then) (sym p.given_up)
               (goes_further more then p.at p.counted p.text p.tallied)
+
+-- what is given up changes no lower bound
+low_stays : {B S P : Type 0} (end below : ℕ) (ts : List (TimelineOf B S P)) → least_low_in end (map (without below) ts) ≡ least_low_in end ts
+low_stays end below [] = refl
+low_stays end below (t ∷ ts) = ap (λ n. min (low_in t) n) (low_stays end below ts)
+
+pub bound_stays : {B S P : Type 0} (mid after : CoreView B S P) (below : ℕ) → after ≡ without_below below mid → safe_bound_in mid ≡ safe_bound_in after
+bound_stays mid after below is = sym (ap (λ (c : CoreView _ _ _). safe_bound_in c) is ∙ low_stays (mid.until + 1) below mid.timelines)
+
+pub driven_on : {B S P : Type 0} (r : Reaction S P) (last : ℕ) (schedule : List Step) (used : ℕ) (core mid after : CoreView B S P) (below : ℕ)
+    → (tries : ℕ) × (used ≡ min tries (length schedule)) × AreTries r (Some last) tries schedule core mid → after ≡ without_below below mid → IsDrivenOn r last schedule used core after below
+driven_on r last schedule used core mid after below (tries, is, made) given_up = record { tries = tries; between = mid; used_is = is; made = made; given_up = given_up }
 
 pub if_further : (end : Result Driven NoMemory) (below : ℕ) (P : ℕ → Type 0) → IfOk end (λ d. d.end ≡ drive.Crossed → P d.used) → IfFurther (outcome end below) P
 if_further (Err memory) below P h = tt

@@ -1,6 +1,6 @@
 -- How a run by steps of timelines ends, and what was written then. `budget` is the most events that a timeline executes, and
 -- the run is that of the plan under each cut that drops no round up to it.
-use Rattle.std.specs.Prelude.{ℕ, ◌+◌, ◌≤◌, ◌⊎◌, List, length, Option}
+use Rattle.std.specs.Prelude.{ℕ, ◌≡◌, ◌+◌, ◌≤◌, ◌⊎◌, List, length, Option}
 use Rattle.event_order.specs.Machine.{within}
 use Rattle.sim_base.specs.Outside.{Appends, AppendsPrefix}
 use Rattle.ssf_model.specs.declared.event.Event.{Event}
@@ -16,9 +16,9 @@ use Rattle.alignment.specs.Alignment.{IsAlignment, line_of}
 use Rattle.trace_writer.specs.Trace.{entries_text, trace_text}
 use Rattle.trace_writer.specs.Report.{Totals}
 use Rattle.core_traces.specs.Records.{AreEntriesBelow, AreAllEntries}
-use Rattle.core_rules.specs.Cores.{CoreView}
+use Rattle.core_rules.specs.Cores.{CoreView, IsSoundFor}
 use Rattle.sync_core.specs.Driving.{EndsFirstAt}
-use Rattle.core_traces.specs.Kept.{run_on, IsCoreFrom}
+use Rattle.core_traces.specs.Kept.{run_on}
 use Rattle.core_traces.specs.Ends.{AreWindows, IsInBudget}
 use Rattle.step_run.specs.declared.running.StepEnd.{StepEnd}
 use Rattle.step_run.specs.declared.running.StepEnd.TheVariants.{Finished, OverBudget, MemoryBelow, Memory, TooManyTimelines, Write}
@@ -101,13 +101,13 @@ module _ {B S P : Type 0} where
   OnTimelines r plan nets mode threshold until budget law =
       (lines : List ℕ) (most : ℕ) → IsAlignment plan nets mode lines → budget ≤ most → law (run_on r plan lines threshold until (within most))
 
-  -- it stopped with parts that are sound for this run, at which i is the least timeline where the budget ends. They keep all
-  -- entries from the time `from` on
+  -- it stopped with parts that are sound for this run and have this budget, in which i is the least timeline where the budget ends
   pub record HasStoppedAt (r : Reaction S P) (plan : Plan B S P) (nets : List ℕ) (mode : Mode) (threshold until budget i : ℕ) : Type 0 where
     pub core : CoreView B S P
     pub first : EndsFirstAt core i
-    pub from : ℕ
-    pub run : (lines : List ℕ) (most : ℕ) → IsAlignment plan nets mode lines → budget ≤ most → IsCoreFrom plan (line_of lines) (run_on r plan lines threshold until (within most)) budget core from
+    pub has_budget : core.budget ≡ budget
+    pub sound : (lines : List ℕ) (most : ℕ) → IsAlignment plan nets mode lines → budget ≤ most
+        → (at : ℕ → ℕ) × (before : ℕ) × IsSoundFor plan (line_of lines) (run_on r plan lines threshold until (within most)) core at before
 
   -- ---- what was written
 
@@ -124,10 +124,11 @@ module _ {B S P : Type 0} where
     pub are : AreRecordsBelow r plan until budget below entries
     pub text : Appends (entries_text names entries) held held'
 
-  -- a part was written, from the beginning: of the records below some time, before which no timeline has more events than the
-  -- budget, or of the whole trace, where none has more
+  -- a part was written, from the beginning: of the records below some time, at most a tick after the end, before which no timeline has
+  -- more events than the budget, or of the whole trace, where none has more
   pub record IsPieceOfRecords (r : Reaction S P) (plan : Plan B S P) (names : Names) (nets : List ℕ) (mode : Mode) (threshold until budget : ℕ) (held held' : Option (List ℕ)) : Type 0 where
     pub below : ℕ
+    pub inside : below ≤ until + 1
     pub in_budget : OnTimelines r plan nets mode threshold until budget (λ s. IsInBudget s budget below)
     pub entries : List Entry
     pub are : AreRecordsBelow r plan until budget below entries

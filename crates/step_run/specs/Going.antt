@@ -1,5 +1,5 @@
 -- A run by steps while it goes on. No public clause cites this file.
-use Rattle.std.specs.Prelude.{ℕ, ◌≡◌, ◌≤◌, min, List, [], length, Option, Result, Ok, Err}
+use Rattle.std.specs.Prelude.{ℕ, ◌≡◌, ◌+◌, ◌≤◌, min, List, [], length, Option, Some, Result, Ok, Err}
 use Rattle.event_order.specs.Machine.{within}
 use Rattle.sim_base.specs.Outside.{Appends, Rose}
 use Rattle.ssf_model.specs.declared.event.Entry.{Entry}
@@ -14,7 +14,9 @@ use Rattle.alignment.specs.declared.labels.Mode.{Mode}
 use Rattle.alignment.specs.Alignment.{IsAlignment, line_of, timeline_count}
 use Rattle.trace_writer.specs.Trace.{entries_text}
 use Rattle.trace_writer.specs.Report.{Totals}
+use Rattle.sync_steps.specs.declared.steps.Step.{Step}
 use Rattle.core_rules.specs.Cores.{CoreView}
+use Rattle.core_rules.specs.Stepping.{without_below}
 use Rattle.core_traces.specs.Kept.{run_on, IsCoreFrom}
 use Rattle.core_traces.specs.Ends.{AreWindows, IsInBudget, EndsBudget}
 use Rattle.step_run.specs.declared.running.StepEnd.{StepEnd}
@@ -25,6 +27,7 @@ use Rattle.sim_base.specs.declared.outside.Memory.{Memory as NoMemory}
 use Rattle.sync_core.specs.declared.driving.DriveEnd.{DriveEnd}
 use Rattle.sync_core.specs.declared.driving.DriveEnd.TheVariants as drive
 use Rattle.sync_core.specs.declared.driving.Driven.{Driven}
+use Rattle.sync_core.specs.Driving.{AreTries}
 use Rattle.step_run.specs.Telling.{MostCounted, Told, IsTallied}
 use Rattle.step_run.specs.Endings.{IfFinished, IfOverBudget, IfMemoryBelow, IfTooMany, IfWrite, IfNotBegun, AreRecordsBelow, AreAllRecords, IsTraced, IsWrittenBelow, IsPartWritten, OnTimelines, HasStoppedAt}
 
@@ -79,6 +82,7 @@ module _ {B S P : Type 0} where
   -- all was executed, and its records were written, which are those before a time
   pub record IsWhole (r : Reaction S P) (names : Names) (until : ℕ) (task : Task B S P) (told : Told) (crossed last : ℕ) (first now : Output) : Type 0 where
     pub entries : List Entry
+    pub inside : told.below ≤ until + 1
     pub before : AreRecordsBelow r task.plan until task.budget told.below entries
     pub all : AreAllRecords r task.plan until task.budget entries
     pub counted : told.count ≡ min (length entries) MostCounted
@@ -100,6 +104,7 @@ module _ {B S P : Type 0} where
     pub stopped : HasStoppedAt r task.plan task.nets task.mode task.threshold until task.budget timeline
 
   pub record IsHalted (r : Reaction S P) (names : Names) (until : ℕ) (task : Task B S P) (below : ℕ) (first now : Output) : Type 0 where
+    pub inside : below ≤ until + 1
     pub written : IsWrittenBelow r task.plan names until task.budget below first.held now.held
     pub in_budget : (most : ℕ) → task.budget ≤ most → IsInBudget (run_on r task.plan task.lines task.threshold until (within most)) task.budget below
 
@@ -119,11 +124,21 @@ module _ {B S P : Type 0} where
     pub over : IfOverBudget end (λ timeline below. IsWrittenBelow r task.plan names until task.budget below first.held now.held)
     pub budget_ends : IfOverBudget end (λ timeline below. OnTimelines r task.plan task.nets task.mode task.threshold until task.budget (λ s. EndsBudget s task.budget timeline below))
     pub stopped : IfOverBudget end (λ timeline below. HasStoppedAt r task.plan task.nets task.mode task.threshold until task.budget timeline)
+    pub inside : IfMemoryBelow end (λ below. below ≤ until + 1)
     pub memory_below : IfMemoryBelow end (λ below. IsWrittenBelow r task.plan names until task.budget below first.held now.held)
     pub in_budget : IfMemoryBelow end (λ below. OnTimelines r task.plan task.nets task.mode task.threshold until task.budget (λ s. IsInBudget s task.budget below))
     pub part : IfWrite end (IsPartWritten r task.plan names task.nets task.mode task.threshold until task.budget first.held now.held)
     pub nothing : IfNotBegun end (Appends [] first.held now.held)
     pub few_timelines : IfTooMany end (λ count. ⊥)
+
+  -- steps were made up to a round: those of the schedule were tried in order, `used` of them, and then the first enabled ones were made; then
+  -- entries below a time were given up
+  pub record IsDrivenOn (r : Reaction S P) (last : ℕ) (schedule : List Step) (used : ℕ) (core after : CoreView B S P) (below : ℕ) : Type 0 where
+    pub tries : ℕ
+    pub between : CoreView B S P
+    pub used_is : used ≡ min tries (length schedule)
+    pub made : AreTries r (Some last) tries schedule core between
+    pub given_up : after ≡ without_below below between
 
   -- what became of it in one turn: `used` steps of a schedule were tried, and it goes on; or all was executed; or it ended
   abbrev pub HasAdvanced : Reaction S P → Names → ℕ → Task B S P → CoreView B S P → Told → Output → Output → Advanced → Type 0

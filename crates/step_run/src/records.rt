@@ -55,8 +55,9 @@ fn table_of<'a, B: Behaviour>(
     Ok(Table { histories })
 }
 
-/// Writes the records of a run while it goes on. Its room is taken when it is made. Contracts see the
-/// room, how many records were written, up to 2^64 - 1, and the time below which all were.
+/// Writes the records of a run while it goes on. Its room is taken when it is made, but for a table of the histories,
+/// one place a timeline, which is made for each piece. Contracts see the room, how many records were written, up to
+/// 2^64 - 1, and the time below which all were.
 #[derive(Drop)]
 pub struct Records {
     merger: Merger,

@@ -10,9 +10,10 @@ ghost use Rattle.alignment.specs.declared.labels.Mode.{Mode as ModeValue};
 ghost use Rattle.alignment.specs.Alignment.{IsAlignment, timeline_count};
 ghost use Rattle.alignment.specs.Classes.{classified};
 ghost use Rattle.trace_writer.specs.Merging.{HasRoom};
+ghost use Rattle.core_rules.specs.Reading.{safe_bound_in};
 ghost use Rattle.core_traces.specs.Ends.{AreWindows, IsInBudget, EndsBudget};
 ghost use Rattle.step_run.specs.Endings.{IfFinished, IfOverBudget, IfMemoryBelow, IfTooMany, IfWrite, IfNotBegun, IfBegun, IsTraced, IsWrittenBelow, IsPartWritten, OnTimelines, HasStoppedAt};
-ghost use Rattle.step_run.specs.Going.{Task, IsGiven, Output, IsUnderWay, GoesOn, IsWhole, HasEnded, IsTold, HasAdvanced, HasCause, IfFurther, IsCaused, outcome};
+ghost use Rattle.step_run.specs.Going.{Task, IsGiven, Output, IsUnderWay, GoesOn, IsWhole, HasEnded, IsTold, HasAdvanced, HasCause, IfFurther, IsCaused, IsDrivenOn, outcome};
 ghost use Rattle.ssf_model.specs.declared.event.Names.{Names as NamesValue};
 ghost use Rattle.trace_writer.specs.Report.{Totals};
 
@@ -36,7 +37,7 @@ pub enum StepEnd {
     /// A timeline has more events than the budget: the first one at which the budget ends where the run stopped. Exactly
     /// the records below this time, in ticks, were written.
     OverBudget { timeline: u32, below: u64 },
-    /// There was no memory to go on. Exactly the records below this time, in ticks, were written.
+    /// There was no memory to go on. Exactly the records below this time, in ticks, were written; it is at most a tick after the end.
     MemoryBelow(u64),
     /// There was no memory to begin. Nothing was written.
     Memory,
@@ -95,6 +96,7 @@ pub fn run_steps<B: Behaviour, K: Sink>(
     ensures over { IfOverBudget result (λ timeline below. IsWrittenBelow (B.reaction plan.behaviour) plan names.now order.now.until order.now.budget below (K.held out.old) (K.held out.new)) }
     ensures budget_ends { IfOverBudget result (λ timeline below. OnTimelines (B.reaction plan.behaviour) plan nets.now order.now.mode order.now.threshold order.now.until order.now.budget (λ s. EndsBudget s order.now.budget timeline below)) }
     ensures stopped { IfOverBudget result (λ timeline below. HasStoppedAt (B.reaction plan.behaviour) plan nets.now order.now.mode order.now.threshold order.now.until order.now.budget timeline) }
+    ensures inside { IfMemoryBelow result (λ below. below ≤ order.now.until + 1) }
     ensures memory_below { IfMemoryBelow result (λ below. IsWrittenBelow (B.reaction plan.behaviour) plan names.now order.now.until order.now.budget below (K.held out.old) (K.held out.new)) }
     ensures in_budget { IfMemoryBelow result (λ below. OnTimelines (B.reaction plan.behaviour) plan nets.now order.now.mode order.now.threshold order.now.until order.now.budget (λ s. IsInBudget s order.now.budget below)) }
     ensures nothing { IfNotBegun result (Appends [] (K.held out.old) (K.held out.new)) }
@@ -241,8 +243,10 @@ fn advance<B: Behaviour, K: Sink>(
         → HasAdvanced (B.reaction task.plan.behaviour) names.now until task core.new records.new first (record { held = K.held out.new; tally = tally.new }) result }
     ensures goes_on { IfFurther result (λ used. GoesOn B.valid B.carried B.reaction names.now until core.new) }
     ensures room { IfFurther result (λ used. HasRoom names.now (length core.new.timelines) records.new.room) }
-    ensures risen { IfFurther result (λ used. core.new.barrier.round ≡ core.old.barrier.round + CROSSINGS) }
+    ensures streamed { IfFurther result (λ used. records.new.below ≡ safe_bound_in core.new) }
+    ensures risen { IfFurther result (λ used. core.new.barrier.round ≡ core.old.barrier.round + 1024) }
     ensures used { IfFurther result (λ used. used ≤ length schedule.now) }
+    ensures driven { IfFurther result (λ used. IsDrivenOn (B.reaction core.old.behaviour) (core.old.barrier.round + 1024) schedule.now used core.old core.new records.new.below) }
     ensures cause { HasCause (K.faults out.old) (K.faults out.new) result }
     ensures never_falls { K.faults out.old ≤ K.faults out.new }
 {

@@ -1,13 +1,14 @@
-use Rattle.std.proofs.Common.{◌≡◌, ◌≤◌, ◌+◌, length, sym, ap, ◌∙◌, subst, lit≤, Err}
+use Rattle.std.proofs.Common.{ℕ, ◌≡◌, ◌≤◌, ◌+◌, length, sym, ap, ◌∙◌, subst, lit≤, Err}
 use Rattle.trace_writer.specs.Merging.{HasRoom}
 use Rattle.trace_writer.specs.declared.merging.MergeFault.TheVariants.{WriteFault, Memory as NoRoom}
 use Rattle.core_rules.specs.Cores.{CoreView}
 use Rattle.core_rules.specs.Reading.{safe_bound_in}
+use Rattle.core_rules.specs.Stepping.{without_below}
 use Rattle.sync_core.specs.declared.driving.DriveEnd.TheVariants as drive
 use Rattle.sync_core.specs.declared.driving.Driven.{Driven}
 use Rattle.step_run.specs.Telling.{Told}
-use Rattle.step_run.specs.Going.{Output, KeepsFrom, GoesOn, IsHalted, HasAdvanced, HasCause, IfFurther, outcome}
-use Rattle.step_run.proofs.Going.{AreDriven, of_run, can_merge, keeps_less, has_advanced, is_cut, is_as_before, if_further, if_always, if_ok_each, has_no_fault, room_on}
+use Rattle.step_run.specs.Going.{Output, KeepsFrom, GoesOn, IsHalted, HasAdvanced, HasCause, IfFurther, IsDrivenOn, outcome}
+use Rattle.step_run.proofs.Going.{AreDriven, of_run, can_merge, keeps_less, has_advanced, is_cut, is_as_before, bound_stays, driven_on, if_further, if_always, if_ok_each, has_no_fault, room_on}
 use Rattle.step_run.proofs.Laws.{laws}
 use Rattle.step_run.proofs.running.advance.Goals as goal
 
@@ -92,6 +93,30 @@ returns-in-Ok-clause-risen g c =
     (if_further c.drive_some-driven.result c.write_piece.new.self.below (λ used. c.write_piece.new.core.barrier.round ≡ old + 1024)
     (if_ok_each c.drive_some-driven.result _ (λ (d : Driven). d.end ≡ drive.Crossed → c.write_piece.new.core.barrier.round ≡ old + 1024)
     (λ d crossed is. ap (λ (k : CoreView _ _ _). k.barrier.round) c.in-Ok.ensures.given_up ∙ (crossed.0 is).1) c.drive_some-driven.ensures.crossed))
+
+pub returns-in-Ok-clause-streamed : goal.returns-in-Ok-clause-streamed
+returns-in-Ok-clause-streamed g c =
+    let mid = c.drive_some-driven.new.self in
+    if_always c.outcome_of.result (λ used. c.write_piece.new.self.below ≡ safe_bound_in c.write_piece.new.core)
+    (λ used. c.in-Ok.ensures.bound ∙ bound_stays mid c.write_piece.new.core (safe_bound_in mid) c.in-Ok.ensures.given_up)
+
+pub returns-in-Ok-clause-driven : goal.returns-in-Ok-clause-driven
+returns-in-Ok-clause-driven g c =
+    let outcome_is : c.outcome_of.result ≡ outcome c.drive_some-driven.result c.write_piece.new.self.below =
+    c.outcome_of.ensures ∙ ap (λ f. outcome c.drive_some-driven.result f) c.below.ensures in
+    let core = c.args.core.now in
+    let mid = c.drive_some-driven.new.self in
+    let after = c.write_piece.new.core in
+    let below = c.write_piece.new.self.below in
+    let r = g.B.Behaviour.reaction core.behaviour in
+    let last = core.barrier.round + 1024 in
+    let schedule = c.args.schedule.now in
+    let given_up = c.in-Ok.ensures.given_up ∙ ap (λ f. without_below f mid) (sym c.in-Ok.ensures.bound) in
+    let Has : ℕ → Type 0 = λ used. IsDrivenOn r last schedule used core after below in
+    subst (λ a. IfFurther a Has) (sym outcome_is)
+    (if_further c.drive_some-driven.result below Has
+    (if_ok_each c.drive_some-driven.result _ (λ (d : Driven). d.end ≡ drive.Crossed → Has d.used)
+    (λ d tries is. driven_on r last schedule d.used core mid after below tries given_up) c.drive_some-driven.ensures.driven))
 
 pub returns-in-Ok-clause-used : goal.returns-in-Ok-clause-used
 returns-in-Ok-clause-used g c =

@@ -57,6 +57,9 @@ returns-in-Ok-clause-budget_ends g c = (c.run_prepared.ensures.told c.args.nets.
 pub returns-in-Ok-clause-stopped : goal.returns-in-Ok-clause-stopped
 returns-in-Ok-clause-stopped g c = (c.run_prepared.ensures.told c.args.nets.now c.args.order.now.mode c.in-Ok.ensures.aligned).stopped
 
+pub returns-in-Ok-clause-inside : goal.returns-in-Ok-clause-inside
+returns-in-Ok-clause-inside g c = (c.run_prepared.ensures.told c.args.nets.now c.args.order.now.mode c.in-Ok.ensures.aligned).inside
+
 pub returns-in-Ok-clause-memory_below : goal.returns-in-Ok-clause-memory_below
 returns-in-Ok-clause-memory_below g c = (c.run_prepared.ensures.told c.args.nets.now c.args.order.now.mode c.in-Ok.ensures.aligned).memory_below
 
