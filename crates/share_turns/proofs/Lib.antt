@@ -1,0 +1,6 @@
+mod Views
+mod Words
+mod Stays
+mod Shares
+mod Taken
+mod Noting

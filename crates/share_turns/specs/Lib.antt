@@ -1,0 +1,4 @@
+pub mod Shares
+pub mod Tables
+pub mod Holdings
+pub mod Loads
