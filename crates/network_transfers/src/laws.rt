@@ -1,14 +1,16 @@
 //! The laws: contracts of functions with an empty body.
 
-ghost use Rattle.std.specs.Prelude.{◌≡◌, ◌<◌, ◌≤◌, ◌+◌, ℕ, Bool, None, Some};
+ghost use Rattle.std.specs.Prelude.{◌≡◌, ◌<◌, ◌≤◌, ◌+◌, ℕ, Bool, None, Some, slice_get};
 ghost use Rattle.event_order.specs.declared.key.Key.{Key as KeyValue};
 ghost use Rattle.event_order.specs.Pending.{Among};
 ghost use Rattle.sim_base.specs.SegmentFields.{SegmentFields};
 ghost use Rattle.ssf_model.specs.declared.event.Event.{Event};
+ghost use Rattle.ssf_model.specs.declared.entity.Entity.{Entity};
 ghost use Rattle.ssf_model.specs.declared.plan.Plan.{Plan};
 ghost use Rattle.ssf_model.specs.declared.wait.Kind.TheVariants.{Message};
 ghost use Rattle.ssf_model.specs.Reaction.{LatestTime};
-ghost use Rattle.ssf_model.specs.Run.{Fits, run_event};
+ghost use Rattle.ssf_model.specs.Entities.{IsValidEntity};
+ghost use Rattle.ssf_model.specs.Run.{Fits, world_after, run_event};
 ghost use Rattle.ip_layer.specs.Packets.{PacketFields, IsPacket};
 ghost use Rattle.ip_layer.specs.Forwarding.{passed_on};
 ghost use Rattle.tcp_rules.specs.Servers.{ServerFields};
@@ -35,6 +37,15 @@ pub fn addresses_have_one_host()
 pub fn plans_fit<B>()
     ensures { (behaviour : B) (network : Network) (plan : Plan B HostFields PacketFields) → IsNetwork network → first_fault network ≡ None
         → IsNetBuilt behaviour network plan → Fits IsHost IsPacket plan }
+{}
+
+/// In every run of the plan of a network without a fault, up to each time and under each cut, every host
+/// is valid after each number of events, in its entity with its channels, processes and waits.
+pub fn hosts_stay_valid<B>()
+    ensures { (behaviour : B) (network : Network) (plan : Plan B HostFields PacketFields) (until : ℕ) (kept : KeyValue → Bool)
+        → IsNetwork network → first_fault network ≡ None → IsNetBuilt behaviour network plan → until ≤ LatestTime
+        → (n h : ℕ) (host : Entity B HostFields PacketFields)
+        → slice_get (world_after host_reaction plan until kept n).state.entities h ≡ Some host → IsValidEntity IsHost host }
 {}
 
 /// In every run of the plan of a network without a fault, up to each time and under each cut: where a

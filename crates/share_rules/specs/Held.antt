@@ -85,3 +85,21 @@ module _ {B S P : Type 0} (valid : Validity S) (carried : P → Type 0) (r : Rea
   -- the first `done` events of timeline i are all that it has before the window before the barrier's
   abbrev pub HasPassed : BarrierFields → ℕ → ℕ → Type 0
   HasPassed b i done = OfItsRuns valid carried r key (λ plan line s. (v x : ℕ) → IsWindow s b.round v x → Covers s i v done)
+
+  -- ---- values that are held together
+
+  -- timeline i and the mail of timeline j, with their numbers noted
+  pub record ArePaired (n m : ℕ → ℕ) (i j : ℕ) (t : TimelineOf B S P) (x : Mails P) : Type 0 where
+    pub timeline : IsTimelineHeld m i t
+    pub noted : IsNoted key n i t
+    pub mail : IsMailHeld j x
+    pub mail_noted : IsMailNoted key n j x
+
+  -- timeline i and the barrier: the round is marked and how much the timeline has executed, which is all before the window
+  -- before the barrier's
+  pub record AreMet (m : ℕ → ℕ) (i : ℕ) (t : TimelineOf B S P) (bar : BarrierFields) : Type 0 where
+    pub timeline : IsTimelineHeld m i t
+    pub barrier : IsBarrierHeld m bar
+    pub passed : HasPassed bar i t.executed
+    pub round : suc bar.round ≤ m (round_word key)
+    pub done : m (done_word key i) ≡ suc t.executed

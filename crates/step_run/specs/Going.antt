@@ -1,4 +1,5 @@
--- A run by steps while it goes on. No public clause cites this file.
+-- A run by steps while it goes on, and what of it goes for other runs on timelines. Of public clauses only that of `write_end`
+-- cites this file.
 use Rattle.std.specs.Prelude.{ℕ, ◌≡◌, ◌+◌, ◌≤◌, min, List, [], length, Option, Some, Result, Ok, Err}
 use Rattle.event_order.specs.Machine.{within}
 use Rattle.sim_base.specs.Outside.{Appends, Rose}

@@ -9,5 +9,5 @@ mod running;
 
 pub use alignment::Mode;
 pub use records::Records;
-pub use running::{StepEnd, StepOrder, run_steps};
+pub use running::{Prepared, StepEnd, StepOrder, prepare, run_steps, write_end};
 pub use sync_core::Step;

@@ -134,11 +134,46 @@ impl Records {
         ensures same { OnErr result (core.new ≡ core.old) }
     {
         let below = core.safe_bound();
+        self.write_below(alloc, names, core, below, tally, sink)?;
+        core.give_up(below);
+        Ok(())
+    }
+
+    /// Writes the records of all entries with times below this one, in ticks, in the order of their keys, and
+    /// adds them to the tally.
+    ///
+    /// # Errors
+    /// - `WriteFault` only where the sink's `faults` rose in this call. Then a part of the text from its
+    ///   beginning was appended; what counts as written and the tally stay as they were.
+    /// - `Memory` where there was none. Then nothing has changed.
+    pub fn write_below<B: Behaviour, K: Sink>(
+        &mut self,
+        alloc: Global,
+        names: &Names,
+        core: &Core<B>,
+        below: u64,
+        tally: &mut Tally,
+        sink: &mut K,
+    ) -> Result<(), MergeFault>
+        requires room { HasRoom names.now (length core.now.timelines) self.old.room }
+        requires histories { CanMerge names.now (histories_of core.now) }
+        ensures bound { OnOk result (self.new.below ≡ below) }
+        ensures text { OnOk result (Appends (entries_text names.now (merged (histories_of core.now) below)) (K.held sink.old) (K.held sink.new)) }
+        ensures part { result ≡ Err MergeFault.WriteFault → AppendsPrefix (entries_text names.now (merged (histories_of core.now) below)) (K.held sink.old) (K.held sink.new) }
+        ensures cause { result ≡ Err MergeFault.WriteFault → Rose (K.faults sink.old) (K.faults sink.new) }
+        ensures never_falls { K.faults sink.old ≤ K.faults sink.new }
+        ensures count { OnOk result (self.new.count ≡ min (self.old.count + length (merged (histories_of core.now) below)) MostCounted) }
+        ensures tally { OnOk result (IsTallied tally.old tally.new (merged (histories_of core.now) below)) }
+        ensures room { (self.old.room.line ≤ self.new.room.line) × (self.old.room.places ≤ self.new.room.places) }
+        ensures nothing { result ≡ Err MergeFault.Memory → Appends [] (K.held sink.old) (K.held sink.new) }
+        ensures untold { OnErr result (tally.new ≡ tally.old) }
+        ensures stands { OnErr result ((self.new.count ≡ self.old.count) × (self.new.below ≡ self.old.below)) }
+        ensures kept { result ≡ Err MergeFault.Memory → self.new ≡ self.old }
+    {
         let count = self.write_before(alloc, names, core, below, sink)?;
         add_before(core.histories(), below, tally);
         self.count = self.count.saturating_add(count);
         self.below = below;
-        core.give_up(below);
         Ok(())
     }
 

@@ -115,14 +115,17 @@ pub fn run_steps<B: Behaviour, K: Sink>(
 
 /// An alignment of a plan with the classes of its mappings, and the room for writing.
 #[derive(Drop)]
-struct Prepared {
-    alignment: Alignment,
-    classes: Classes,
-    records: Records,
+pub struct Prepared {
+    pub alignment: Alignment,
+    pub classes: Classes,
+    pub records: Records,
 }
 
 /// Aligns a plan, and takes the room for writing.
-fn prepare<B: Behaviour>(
+///
+/// # Errors
+/// `AlignFault`, with `Memory` too where there is no room for writing.
+pub fn prepare<B: Behaviour>(
     alloc: Global,
     plan: &Plan<B>,
     names: &Names,
@@ -274,9 +277,10 @@ fn outcome_of(driven: Result<Driven, Memory>, below: u64) -> Advanced
     }
 }
 
-/// Writes the line that ends the trace.
+/// Writes the line that ends the trace of a run whose records were all written. `before` is how many events
+/// went before. It answers `Finished`, or why this line was not written.
 #[tactic(none)]
-fn write_end<B: Behaviour, K: Sink>(
+pub fn write_end<B: Behaviour, K: Sink>(
     core: &Core<B>,
     records: &mut Records,
     until: u64,
