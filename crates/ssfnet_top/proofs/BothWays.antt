@@ -58,6 +58,7 @@ module _ {B S P : Type 0} (r : Reaction S P) (plan : Plan B S P) (names : Names)
   all_of R w = record { count = w.count; are = refl; each = w.events.each; no_more = w.events.no_more }
 
   traces_same : (R : ℕ) → most ≤ R → IsWithin r plan names until budget wanted R due → IsWithinOn r plan names nets mode threshold until most told other → due.out ≡ other.out
+  unfolding all_of
   traces_same R low w v =
       let first : List Entry = run_entries r plan until (within R) w.count in
       let all = all_of R w in
