@@ -1,5 +1,9 @@
 -- What a command did, by its request.
-use Rattle.std.proofs.Common.{ℕ, ◌≡◌, ◌⊎◌, inl, inr, ◌++◌, ◌∙◌, ap, sym, subst, List, [], map, String, string_bytes, Bool, true, false, Option, Result, Ok, Err, IfErr}
+use Rattle.std.proofs.Common.{ℕ, ◌≡◌, ◌⊎◌, inl, inr, ◌++◌, ◌∙◌, ap, sym, subst, List, [], map, String, string_bytes, Bool, true, false, Option, Some, Result, Ok, Err, IfErr}
+use Rattle.sim_base.specs.Outside.{Appends}
+use Rattle.alignment.specs.declared.labels.Mode.{Mode}
+use Rattle.command_words.specs.Words.{Asked}
+use Rattle.ssfnet_top.specs.declared.running.Way.TheVariants as way
 use Rattle.std.specs.declared.alloc.Global.{Global}
 use Rattle.dml_tree.specs.declared.tree.Attribute.{Attribute}
 use Rattle.dml_tree.specs.Attributes.{Attributes}
@@ -21,7 +25,8 @@ use Rattle.ssfnet_top.specs.declared.refusal.Refusal.TheVariants as refusal
 use Rattle.ssfnet_top.specs.declared.running.Told.{Told}
 use Rattle.ssfnet_top.specs.Outcome.{asked_of, planned_network, by_list, on_timelines, IsNetworkRun, IsRingRun, IsRunIn, IsModelRun, IsCommandDue, IsCommandMidway}
 use Rattle.ssfnet_top.specs.Outcome.Course.{Ended, Midway}
-use Rattle.ssfnet_top.specs.Ending.{Answers, AnswersMidway, IsOfCommand, IsOfModel, IsOfRun, IsUntold, told_text, windows_text}
+use Rattle.ssfnet_top.specs.Answering.{Answers, AnswersMidway, IsOfCommand, IsOfModel, IsOfRun, IsOnTimelines, IsUntold, told_text, windows_text}
+use Rattle.ssfnet_top.specs.Ending.{HasMiddle, MayEndMidway}
 
 pub untold_text : (told : Told) → IsUntold told → told_text told ≡ []
 untold_text told none = ap (λ (t : List ℕ). t ++ windows_text told.windows) none.0 ∙ ap (λ (w : Option (ℕ × ℕ)). [] ++ windows_text w) none.1
@@ -131,3 +136,20 @@ pub stepped_cause : (until budget : ℕ) (wanted : Bool) (aligned : Align) (thre
     → IfErr answer (λ r. IsOfModel names r ⊎ IsOfRun (on_timelines until budget wanted aligned threshold) r)
     → IfErr answer (λ r. IsOfCommand (commands.Step until budget aligned threshold) names r)
 stepped_cause until budget wanted aligned threshold names answer cause = if_err_each answer _ _ (of_steps until budget wanted aligned threshold names) cause
+
+-- Where nothing was written for want of memory: it is said of runs on timelines alone.
+
+pub unbegun_without : (answer : Result (Unit {0}) Refusal) (command here : Command) (held held' : Option (List ℕ)) → command ≡ here → (HasMiddle here → ⊥)
+    → IfErr answer (λ r. r ≡ refusal.Memory → HasMiddle command → Appends [] held held')
+unbegun_without (Ok unit) command here held held' is lacks = tt
+unbegun_without (Err r) command here held held' is lacks = λ short middle. absurd (lacks (subst HasMiddle is middle))
+
+pub unbegun_stepped : (answer : Result (Unit {0}) Refusal) (command : Command) (held held' : Option (List ℕ)) (mode : Mode) (threshold : ℕ)
+    → IfErr answer (λ r. r ≡ refusal.Memory → IsOnTimelines (way.Timelines mode threshold) → Appends [] held held')
+    → IfErr answer (λ r. r ≡ refusal.Memory → HasMiddle command → Appends [] held held')
+unbegun_stepped answer command held held' mode threshold none = if_err_each answer _ _ (λ r given short middle. given short tt) none
+
+pub asked_unbegun : (answer : Result (Unit {0}) Refusal) (asked : Option Asked) (a : Asked) (held held' : Option (List ℕ)) → asked ≡ Some a
+    → IfErr answer (λ r. r ≡ refusal.Memory → HasMiddle a.command → Appends [] held held')
+    → IfErr answer (λ r. r ≡ refusal.Memory → MayEndMidway asked → Appends [] held held')
+asked_unbegun answer asked a held held' is none = if_err_each answer _ _ (λ r given short middle. given short (let there : MayEndMidway (Some a) = subst MayEndMidway is middle in there)) none

@@ -1,5 +1,6 @@
 -- From the run of a plan to the course of its model.
-use Rattle.std.proofs.Common.{ℕ, ◌≡◌, ◌++◌, sym, subst, Bool, List, [], append-nil, ◌⊎◌, inl, inr, Option, None, Result, Ok, Err}
+use Rattle.std.proofs.Common.{ℕ, ◌≡◌, ◌++◌, sym, subst, Bool, List, [], append-nil, ◌⊎◌, inl, inr, Option, None, Result, Ok, Err, IfErr}
+use Rattle.sim_base.specs.Outside.{Appends}
 use Rattle.dml_tree.specs.declared.tree.Attribute.{Attribute}
 use Rattle.dml_tree.specs.Attributes.{Attributes}
 use Rattle.alignment.specs.declared.labels.Mode.{Mode}
@@ -20,10 +21,11 @@ use Rattle.ring_model.specs.declared.ring.RingState.{RingState}
 use Rattle.ring_model.specs.declared.ring.RingPayload.{RingPayload}
 use Rattle.ring_model.specs.Reacting.{ring_reaction}
 use Rattle.ssfnet_top.specs.declared.refusal.Refusal.{Refusal}
+use Rattle.ssfnet_top.specs.declared.refusal.Refusal.TheVariants as refusal
 use Rattle.ssfnet_top.specs.declared.running.Running.{Running}
 use Rattle.ssfnet_top.specs.Outcome.{Due, Course, IsRunDue, IsCourseBy, IsCourse, IsRingRun, IsNetworkRun, IsRunIn, IsModelRun}
 use Rattle.ssfnet_top.specs.Outcome.Course.{Ended, Midway}
-use Rattle.ssfnet_top.specs.Ending.{Answers, AnswersMidway, windows_text}
+use Rattle.ssfnet_top.specs.Answering.{Answers, AnswersMidway, IsOnTimelines, windows_text}
 
 -- what answers to one outcome answers to another that follows from it
 pub answers_by : (P Q : Due → Type 0) → ((due : Due) → P due → Q due) → (report : List ℕ) (answer : Result (Unit {0}) Refusal) (faults faults' : ℕ) (held held' : Option (List ℕ))
@@ -85,3 +87,14 @@ pub run_of_model : (running : Running) (tree other : Result Attributes Refusal) 
     → Answers (λ due. IsModelRun running other (Ended due)) report answer faults faults' held held' ⊎ AnswersMidway (λ below text. IsModelRun running other (Midway below text)) answer faults faults' held held'
 run_of_model running tree other report answer faults faults' held held' same goes =
     subst (λ (t : Result Attributes Refusal). Answers (λ due. IsModelRun running t (Ended due)) report answer faults faults' held held' ⊎ AnswersMidway (λ below text. IsModelRun running t (Midway below text)) answer faults faults' held held') same goes
+
+-- where nothing was written for want of memory: a run by one event list says nothing of it
+pub unbegun_by_list : (answer : Result (Unit {0}) Refusal) (by : Way) (held held' : Option (List ℕ)) → by ≡ way.OneList
+    → IfErr answer (λ r. r ≡ refusal.Memory → IsOnTimelines by → Appends [] held held')
+unbegun_by_list (Ok unit) by held held' is = tt
+unbegun_by_list (Err r) by held held' is = λ short on. absurd (subst IsOnTimelines is on)
+
+pub unbegun_on_timelines : (answer : Result (Unit {0}) Refusal) (by : Way) (held held' : Option (List ℕ)) → IfErr answer (λ r. r ≡ refusal.Memory → Appends [] held held')
+    → IfErr answer (λ r. r ≡ refusal.Memory → IsOnTimelines by → Appends [] held held')
+unbegun_on_timelines (Ok unit) by held held' none = tt
+unbegun_on_timelines (Err r) by held held' none = λ short on. none short

@@ -1,5 +1,5 @@
 -- From the answer of a command to how its call ends.
-use Rattle.std.proofs.Common.{ℕ, ◌≡◌, ◌∙◌, sym, ap, subst, refl, Bool, true, false, List, [], ◌∷◌, ◌++◌, append-nil, length, take, codes, arith, IfSome, inl, inr, ◌⊎◌, Option, Some, None, IfOk, IfErr, OnOk, OnErr, Result, Ok, Err, Vec, Global}
+use Rattle.std.proofs.Common.{ℕ, ◌≡◌, ◌∙◌, sym, ap, subst, refl, Bool, true, false, List, [], ◌∷◌, ◌++◌, ◌≤◌, lit≤, append-nil, length, take, codes, arith, IfSome, inl, inr, ◌⊎◌, Option, Some, None, IfOk, IfErr, OnOk, OnErr, Result, Ok, Err, Vec, Global}
 use Rattle.dml_tree.specs.Attributes.{Attributes}
 use Rattle.sim_base.specs.Outside.{Files, Rose, Appends, AppendsPrefix}
 use Rattle.command_words.specs.declared.command.Command.{Command}
@@ -9,7 +9,8 @@ use Rattle.ssfnet_top.specs.declared.refusal.Refusal.TheVariants as refusal
 use Rattle.ssfnet_top.specs.Refusals.{status_of, line_of}
 use Rattle.command_words.specs.Words.{Asked, asked_of_words}
 use Rattle.ssfnet_top.specs.Outcome.{Due, done, done_with, refused, refusal_line, AreRead, IsText, IsTreeDue, IsAskedDue, IsOutcome, IsTreeMidway, IsAskedMidway, IsMidway}
-use Rattle.ssfnet_top.specs.Ending.{Outside, IsReport, IsLongReport, IsMade, AnswersMidway, Tells, IsToldOf, WantsReport, HasTold, IsReportCut, IsReportTold, IsStopped, IsReached, IsFileReached, Ends, due_of, IsHalt, Answers, IsReadFault, IsTold, IsLineCut, Concerns}
+use Rattle.ssfnet_top.specs.Answering.{IsMade, AnswersMidway, IsReportTold, due_of, IsHalt, Answers, IsReadFault, IsTold}
+use Rattle.ssfnet_top.specs.Ending.{Outside, HasBudget, HasMiddle, MayEndMidway, IsReport, IsLongReport, Tells, IsToldOf, WantsReport, HasTold, IsReportCut, IsStopped, IsReached, IsFileReached, Ends, IsLineCut, Concerns}
 use Rattle.std.proofs.lemmas.Grind.{common_steps}
 
 -- nothing is written
@@ -74,6 +75,26 @@ not_halted : (unit : Unit {0}) (faults faults' : ℕ) → IsHalt (Ok unit) fault
 not_halted unit faults faults' (inl is) = ok_err unit refusal.Memory is
 not_halted unit faults faults' (inr is) = ok_err unit refusal.Write is.0
 
+-- the budget of one list is that of no command which may be ended in the middle of a run
+list_budget : (command : Command) (budget : ℕ) → HasBudget command budget → HasMiddle command → ⊥
+list_budget (commands.Seq until most) budget has middle = middle
+list_budget (commands.Step until most aligned threshold) budget has middle = has
+list_budget (commands.Dml flat) budget has middle = has
+list_budget commands.Check budget has middle = has
+list_budget commands.Plan budget has middle = has
+list_budget (commands.Run until most aligned threshold workers) budget has middle = has
+list_budget (commands.Gen seed size) budget has middle = has
+
+no_list_budget : (asked : Option Asked) (budget : ℕ) → Concerns asked (refusal.Budget budget) → MayEndMidway asked → ⊥
+no_list_budget None budget has middle = absurd has
+no_list_budget (Some asked) budget has middle = list_budget asked.command budget has middle
+
+-- a failed write ends with status 7
+write_seven : (status faults faults' : ℕ) (held held' : Option (List ℕ)) → IsTold refusal.Write status faults faults' held held' → status ≡ 1 → ⊥
+write_seven status faults faults' held held' (inl told) one = let seven : status ≡ 7 = told.0 in omega (arith, one, seven)
+write_seven status faults faults' held held' (inr (inl told)) one = told.1
+write_seven status faults faults' held held' (inr (inr failed)) one = let seven = failed.0 in omega (arith, one, seven)
+
 -- the line of a refusal is told where it is written on `err`
 module _ (before after : Outside) where
   memory_stops : (asked : Option Asked) (status : ℕ) → IsTold refusal.Memory status before.err_faults after.err_faults before.err after.err → IsStopped asked status before after
@@ -98,15 +119,40 @@ module _ (before after : Outside) where
       let P : Refusal → Type 0 = λ s. IsTold s status before.err_faults after.err_faults before.err after.err in
       write_stops asked status rose (subst (λ (s : Refusal). Concerns asked s) same c) (subst P same told)
 
+  -- nothing is written where there was no memory, or for faults of files and models
+  pub record LeavesNothing (asked : Option Asked) (r : Refusal) : Type 0 where
+    pub unbegun : r ≡ refusal.Memory → MayEndMidway asked → Appends [] before.out after.out
+    pub nothing : 2 ≤ status_of r → status_of r ≤ 6 → Appends [] before.out after.out
+
+  made_leaves : (asked : Option Asked) (r : Refusal) → IsMade r → Concerns asked r → LeavesNothing asked r → MayEndMidway asked → Appends [] before.out after.out
+  made_leaves asked refusal.Memory made c leaves middle = leaves.unbegun refl middle
+  made_leaves asked refusal.Words made c leaves middle = leaves.nothing (lit≤ tt) (lit≤ tt)
+  made_leaves asked (refusal.Read file) made c leaves middle = leaves.nothing (lit≤ tt) (lit≤ tt)
+  made_leaves asked (refusal.Dml file fault) made c leaves middle = leaves.nothing (lit≤ tt) (lit≤ tt)
+  made_leaves asked (refusal.Path file fault) made c leaves middle = leaves.nothing (lit≤ tt) (lit≤ tt)
+  made_leaves asked (refusal.Shape fault) made c leaves middle = leaves.nothing (lit≤ tt) (lit≤ tt)
+  made_leaves asked refusal.Write made c leaves middle = absurd made
+  made_leaves asked (refusal.Budget budget) made c leaves middle = absurd (no_list_budget asked budget c middle)
+  made_leaves asked (refusal.TimelineBudget timeline budget below) made c leaves middle = absurd made
+  made_leaves asked (refusal.MemoryBelow below) made c leaves middle = absurd made
+
+  halt_leaves : (asked : Option Asked) (r : Refusal) (status : ℕ) → IsHalt (Err r) before.out_faults after.out_faults → LeavesNothing asked r
+      → IsTold r status before.err_faults after.err_faults before.err after.err → status ≡ 1 → MayEndMidway asked → Appends [] before.out after.out
+  halt_leaves asked r status (inl is) leaves told one middle = leaves.unbegun (let same : r ≡ refusal.Memory = cc in same) middle
+  halt_leaves asked r status (inr (is, rose)) leaves told one middle =
+      let same : r ≡ refusal.Write = cc in
+      let P : Refusal → Type 0 = λ s. IsTold s status before.err_faults after.err_faults before.err after.err in
+      absurd (write_seven status before.err_faults after.err_faults before.err after.err (subst P same told) one)
+
   module _ (files : Files) (words : List (List ℕ)) where
     whole_ends : (r : Refusal) (status : ℕ) (text : List ℕ) → IsOutcome files words (refused r text) → Appends text before.out after.out → Concerns (asked_of_words words) r
-        → IsTold r status before.err_faults after.err_faults before.err after.err → Ends files words status before after
-    whole_ends r status text outcome all c (inl told) = inl (refused r text, outcome, inl (record { status_is = told.0; out = all; err = told.1 }))
-    whole_ends r status text outcome all c (inr (inl told)) =
-        inl (refused r text, outcome, inr (inl (record { stopped = inl (told.0, told.2); out = part_all text before.out after.out all })))
-    whole_ends r status text outcome all c (inr (inr failed)) =
+        → LeavesNothing (asked_of_words words) r → IsTold r status before.err_faults after.err_faults before.err after.err → Ends files words status before after
+    whole_ends r status text outcome all c leaves (inl told) = inl (refused r text, outcome, inl (record { status_is = told.0; out = all; err = told.1 }))
+    whole_ends r status text outcome all c leaves (inr (inl told)) =
+        inl (refused r text, outcome, inr (inl (record { stopped = inl (told.0, told.2); out = part_all text before.out after.out all; unbegun = λ one. made_leaves (asked_of_words words) r told.1 c leaves })))
+    whole_ends r status text outcome all c leaves (inr (inr failed)) =
         let cut = cut_line (asked_of_words words) r before.err_faults after.err_faults before.err after.err c failed.1 failed.2 in
-        inl (refused r text, outcome, inr (inl (record { stopped = inr (failed.0, inr cut); out = part_all text before.out after.out all })))
+        inl (refused r text, outcome, inr (inl (record { stopped = inr (failed.0, inr cut); out = part_all text before.out after.out all; unbegun = λ one middle. absurd (let seven = failed.0 in omega (arith, one, seven)) })))
 
     unread_ends : (name : List ℕ) (status : ℕ) → IsFileReached files (asked_of_words words) name → Rose before.read_faults after.read_faults → Appends [] before.out after.out
         → Concerns (asked_of_words words) (refusal.Read name)
@@ -152,17 +198,17 @@ module _ (before after : Outside) where
         → Answers (IsOutcome files words) report (Err r) before.out_faults after.out_faults before.out after.out
         ⊎ (IsReadFault files (asked_of_words words) (Err r) before.read_faults after.read_faults before.out after.out
         ⊎ AnswersMidway (IsMidway files words) (Err r) before.out_faults after.out_faults before.out after.out)
-        → Concerns (asked_of_words words) r
+        → Concerns (asked_of_words words) r → LeavesNothing (asked_of_words words) r
         → IsTold r status before.err_faults after.err_faults before.err after.err
         → Ends files words status before after
-    ends_refused report r status (inl (inl all)) c told = whole_ends r status all.0 all.1 all.2 c told
-    ends_refused report r status (inl (inr (inl (due, outcome, halt, part)))) c told =
-        inl (due, outcome, inr (inl (record { stopped = halt_stops (asked_of_words words) r status halt c told; out = part })))
-    ends_refused report r status (inl (inr (inr (is, none)))) c told =
+    ends_refused report r status (inl (inl all)) c leaves told = whole_ends r status all.0 all.1 all.2 c leaves told
+    ends_refused report r status (inl (inr (inl (due, outcome, halt, part)))) c leaves told =
+        inl (due, outcome, inr (inl (record { stopped = halt_stops (asked_of_words words) r status halt c told; out = part; unbegun = halt_leaves (asked_of_words words) r status halt leaves told })))
+    ends_refused report r status (inl (inr (inr (is, none)))) c leaves told =
         let halt : IsHalt (Err r) before.out_faults after.out_faults = inl is in
         inr (inl (record { cause = inl (halt_stops (asked_of_words words) r status halt c told); out = none }))
-    ends_refused report r status (inr (inr short)) c told = midway_ends r status short c told
-    ends_refused report r status (inr (inl (name, file, is, rose, none))) c told =
+    ends_refused report r status (inr (inr short)) c leaves told = midway_ends r status short c told
+    ends_refused report r status (inr (inl (name, file, is, rose, none))) c leaves told =
         let same : r ≡ refusal.Read name = cc in
         let P : Refusal → Type 0 = λ s. IsTold s status before.err_faults after.err_faults before.err after.err in
         unread_ends name status file rose none (subst (λ (s : Refusal). Concerns (asked_of_words words) s) same c) (subst P same told)
@@ -334,10 +380,12 @@ pub told_refused : (told : Option Files) (words : List (List ℕ)) (before after
     ⊎ (IsReadFault files (asked_of_words words) (Err r) before.read_faults after.read_faults before.out after.out
     ⊎ AnswersMidway (IsMidway files words) (Err r) before.out_faults after.out_faults before.out after.out))
     → Concerns (asked_of_words words) r
+    → (r ≡ refusal.Memory → MayEndMidway (asked_of_words words) → Appends [] before.out after.out) → (2 ≤ status_of r → status_of r ≤ 6 → Appends [] before.out after.out)
     → IsTold r status before.err_faults after.err_faults before.err after.err
     → IfSome told (λ files. Ends files words status before after)
-told_refused None words before after report r status answers c told = tt
-told_refused (Some files) words before after report r status answers c told = ends_refused before after files words report r status answers c told
+told_refused None words before after report r status answers c unbegun nothing told = tt
+told_refused (Some files) words before after report r status answers c unbegun nothing told =
+    ends_refused before after files words report r status answers c (record { unbegun = unbegun; nothing = nothing }) told
 
 pub told_well : (told : Option Files) (words : List (List ℕ)) (before after : Outside) (report : List ℕ) (unit : Unit {0}) (status : ℕ)
     → IfSome told (λ files. Answers (IsOutcome files words) report (Ok unit) before.out_faults after.out_faults before.out after.out

@@ -14,7 +14,7 @@ use Rattle.dml_resolve.specs.Resolving.{is_find, is_substitution, most_nested, m
 use Rattle.ssfnet_top.specs.declared.refusal.Refusal.{Refusal}
 use Rattle.ssfnet_top.specs.declared.refusal.Refusal.TheVariants as refusal
 use Rattle.ssfnet_top.specs.Outcome.{file_of_fault}
-use Rattle.ssfnet_top.specs.Ending.{IsOfModel}
+use Rattle.ssfnet_top.specs.Answering.{IsOfModel}
 use Rattle.ssfnet_top.specs.FilePlaces.{AllPlaces, HasPlace, ArePlaced, IsPlaced}
 
 pub all_weaker : (P Q : Place → Type 0) → ((p : Place) → P p → Q p) → (t : Attributes) → AllPlaces P t → AllPlaces Q t

@@ -12,7 +12,8 @@ use Rattle.ssfnet_top.specs.declared.refusal.Refusal.{Refusal}
 use Rattle.ssfnet_top.specs.declared.refusal.Refusal.TheVariants as refusal
 use Rattle.ssfnet_top.specs.Refusals.{status_of}
 use Rattle.ssfnet_top.specs.Outcome.{IsRead, IsFileRead, AreRead}
-use Rattle.ssfnet_top.specs.Ending.{IsOfFiles, IsReached}
+use Rattle.ssfnet_top.specs.Answering.{IsOfFiles}
+use Rattle.ssfnet_top.specs.Ending.{IsReached}
 
 -- a file with these bytes has the fault
 pub read_fault : (files : Files) (number : ℕ) (name bytes : List ℕ) (f : TreeFault) → files name ≡ Some bytes → Reads number bytes (Err f) → IsFileRead files number name (Err (refusal.Dml name f))

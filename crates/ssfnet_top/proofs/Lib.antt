@@ -1,4 +1,5 @@
 pub mod Acting
+pub mod BothWays
 pub mod CountLines
 pub mod Endings
 pub mod FaultPlaces

@@ -10,7 +10,7 @@ use Rattle.trace_writer.specs.Trace.{entries_text, trace_text}
 use Rattle.list_run.specs.Endings.{AreAll, AreBudget, IsTallied, IsPartWritten}
 use Rattle.ssfnet_top.specs.declared.refusal.Refusal.TheVariants as refusal
 use Rattle.ssfnet_top.specs.Outcome.{Due, done_with, refused, report_if, IsRunDue}
-use Rattle.ssfnet_top.specs.Ending.{report_with_if}
+use Rattle.ssfnet_top.specs.Answering.{report_with_if}
 use Rattle.ssfnet_top.proofs.RunOutcome.{whole_due, first_due}
 
 -- the report of what a tally got from nothing on

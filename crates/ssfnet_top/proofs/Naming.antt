@@ -38,27 +38,10 @@ names_fit valid carried r sound modest plan until budget names entries given in_
     let N : ℕ → Type 0 = λ n. All (λ (e : Entry). e.entity < n) given in
     subst N (sym named) (subst Q (sym (same ∙ prefix budget reached)) all)
 
--- the plan of a ring begins with no events before it
-before_built : (keys : RingKeys) → (built_of keys).plan.before ≡ 0
-unfolding planned
-before_built keys = refl
-
 pick : {A F : Type 0} (t u : Bool) (f g : F) (x y : A) → cond t (Err f) (cond u (Err g) (Ok x)) ≡ Ok y → x ≡ y
 pick true u f g x y is = absurd (cc)
 pick false true f g x y is = absurd (cc)
 pick false false f g x y is = cc
-
-build_before : (keys : RingKeys) (b : Built Ring RingState RingPayload) → build keys ≡ Ok b → b.plan.before ≡ 0
-build_before keys b is =
-    let same : built_of keys ≡ b = pick (list_any is_long keys.hops) (nat_lt MostChannels (keys.nodes + length keys.hops)) DelayTooLong TooManyChannels (built_of keys) b is in
-    sym (ap (λ (c : Built Ring RingState RingPayload). c.plan.before) same) ∙ before_built keys
-
-read_before : (r : Read RingKeys) (b : Built Ring RingState RingPayload) → then_read r build ≡ Ok b → b.plan.before ≡ 0
-read_before (Ok keys) b is = build_before keys b is
-read_before (Err fault) b is = absurd (cc)
-
-pub plan_before : (root : List Attribute) (b : Built Ring RingState RingPayload) → ring_plan_of root ≡ Ok b → b.plan.before ≡ 0
-plan_before root b is = read_before (ring_of root) b is
 
 -- each node has a Net, and each host
 nets_built : (keys : RingKeys) → length (built_of keys).nets ≡ length (built_of keys).names.names

@@ -14,7 +14,8 @@ use Rattle.command_words.specs.Words.{Asked, all_landed, asked_by, asked_of_word
 use Rattle.ssfnet_top.specs.declared.refusal.Refusal.{Refusal}
 use Rattle.ssfnet_top.specs.declared.refusal.Refusal.TheVariants as refusal
 use Rattle.ssfnet_top.specs.Outcome.{Due, done, AreRead, IsText, IsCommandDue, IsCommandMidway, IsTreeDue, IsAskedDue, IsOutcome}
-use Rattle.ssfnet_top.specs.Ending.{Answers, AnswersMidway, Generates, HasGenerated, IsHalt, due_of}
+use Rattle.ssfnet_top.specs.Answering.{Answers, AnswersMidway, IsHalt, due_of}
+use Rattle.ssfnet_top.specs.Ending.{Generates, HasGenerated}
 use Rattle.ssfnet_top.proofs.Endings.{ok_err}
 
 both : (a b : Bool) → (a && b) ≡ true → (a ≡ true) × (b ≡ true)

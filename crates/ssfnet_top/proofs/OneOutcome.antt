@@ -178,7 +178,7 @@ built_same a b plan names nets =
     let three : List ℕ → Built Host HostFields PacketFields = λ l. record { plan = b.plan; names = b.names; nets = l } in
     ap one plan ∙ (ap two names ∙ ap three nets)
 
-plan_of_one : (network : Network) (a b : Built Host HostFields PacketFields) → IsPlanOf network a → IsPlanOf network b → a ≡ b
+pub plan_of_one : (network : Network) (a b : Built Host HostFields PacketFields) → IsPlanOf network a → IsPlanOf network b → a ≡ b
 plan_of_one network a b p q =
     built_same a b (plans_one (record {}) network a.plan b.plan p.plan q.plan) (names_same a.names b.names (p.names ∙ sym q.names)) (p.nets ∙ sym q.nets)
 

@@ -7,7 +7,7 @@ use Rattle.ssfnet_top.specs.declared.refusal.Refusal.{Refusal}
 use Rattle.ssfnet_top.specs.declared.refusal.Refusal.TheVariants as refusal
 use Rattle.ssfnet_top.specs.Refusals.{status_of, line_of}
 use Rattle.ssfnet_top.specs.Outcome.{refusal_line, windows_line}
-use Rattle.ssfnet_top.specs.Ending.{IsTold, IsReportTold}
+use Rattle.ssfnet_top.specs.Answering.{IsTold, IsReportTold}
 
 -- a part of the second text behind the first
 pub part_then : (a b : List ℕ) (old mid new : Option (List ℕ)) → Appends a old mid → AppendsPrefix b mid new → AppendsPrefix (a ++ b) old new

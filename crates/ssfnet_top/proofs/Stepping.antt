@@ -1,5 +1,5 @@
 -- From the end of a run by steps to what a command answers.
-use Rattle.std.proofs.Common.{ℕ, ◌≡◌, ◌<◌, ◌+◌, ◌++◌, ◌∙◌, ap, subst, refl, Bool, true, false, List, [], length, Option, Result, Ok, Err, ◌⊎◌, inl, inr}
+use Rattle.std.proofs.Common.{ℕ, ◌≡◌, ◌<◌, ◌≤◌, ◌+◌, ◌++◌, ◌∙◌, ap, subst, refl, Bool, true, false, List, [], length, Option, Result, Ok, Err, ◌⊎◌, inl, inr}
 use Rattle.sim_base.specs.Outside.{Rose, Appends}
 use Rattle.net_graph.specs.declared.fault.ShapeFault.TheVariants as shape_fault
 use Rattle.ssf_model.specs.declared.event.Entry.{Entry}
@@ -18,7 +18,8 @@ use Rattle.step_run.specs.Endings.{IfFinished, IfOverBudget, IfMemoryBelow, IfTo
 use Rattle.ssfnet_top.specs.declared.refusal.Refusal.{Refusal}
 use Rattle.ssfnet_top.specs.declared.refusal.Refusal.TheVariants as refusal
 use Rattle.ssfnet_top.specs.Outcome.{done_with, refused, windows_line, told_if, HasTimelines, IsDueOn, IsMidwayOn}
-use Rattle.ssfnet_top.specs.Ending.{Answers, AnswersMidway, IsLongReport, told_with}
+use Rattle.ssfnet_top.specs.Answering.{Answers, AnswersMidway, told_with}
+use Rattle.ssfnet_top.specs.Ending.{IsLongReport}
 
 pub if_finished : (e : StepEnd) (crossed last : ℕ) (P : ℕ → ℕ → Type 0) → e ≡ end.Finished crossed last → IfFinished e P → P crossed last
 if_finished e crossed last P is h = subst (λ (x : StepEnd). IfFinished x P) is h
@@ -94,11 +95,11 @@ module _ {B S P : Type 0} (r : Reaction S P) (plan : Plan B S P) (names : Names)
   gives_over timeline below report there ends stopped written =
       inl (inl (entries_text names written.entries, inl (there, inr (record { timeline = timeline; below = below; ends = ends; stopped = stopped; entries = written.entries; before = written.are; first = refl })), written.text))
 
-  pub gives_below : (below : ℕ) (report : List ℕ) → HasTimelines plan nets mode
+  pub gives_below : (below : ℕ) (report : List ℕ) → HasTimelines plan nets mode → below ≤ until + 1
       → OnTimelines r plan nets mode threshold until budget (λ s. IsInBudget s budget below)
       → IsWrittenBelow r plan names until budget below held held' → Gives report (Err (refusal.MemoryBelow below))
-  gives_below below report there inside written =
-      inr (below, entries_text names written.entries, record { few = there; in_budget = inside; entries = written.entries; before = written.are; text_is = refl }, inl (refl, written.text))
+  gives_below below report there late inside written =
+      inr (below, entries_text names written.entries, record { few = there; inside = late; in_budget = inside; entries = written.entries; before = written.are; text_is = refl }, inl (refl, written.text))
 
   pub gives_nothing : (report : List ℕ) → Appends [] held held' → Gives report (Err refusal.Memory)
   gives_nothing report none = inl (inr (inr (refl, none)))
@@ -110,7 +111,7 @@ module _ {B S P : Type 0} (r : Reaction S P) (plan : Plan B S P) (names : Names)
 
   pub gives_part : (report : List ℕ) → HasTimelines plan nets mode → Rose faults faults' → IsPartWritten r plan names nets mode threshold until budget held held' → Gives report (Err refusal.Write)
   gives_part report there rose (inl piece) =
-      inr (piece.below, entries_text names piece.entries, record { few = there; in_budget = piece.in_budget; entries = piece.entries; before = piece.are; text_is = refl }, inr (refl, rose, piece.text))
+      inr (piece.below, entries_text names piece.entries, record { few = there; inside = piece.inside; in_budget = piece.in_budget; entries = piece.entries; before = piece.are; text_is = refl }, inr (refl, rose, piece.text))
   gives_part report there rose (inr piece) =
       inl (inr (inl (
         done_with (told_if wanted piece.entries piece.crossed piece.last) (trace_text names piece.entries until (plan.before + length piece.entries)),

@@ -1,4 +1,5 @@
 pub mod Agreeing
+pub mod Answering
 pub mod Counts
 pub mod Ending
 pub mod FilePlaces

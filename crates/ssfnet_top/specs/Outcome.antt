@@ -252,9 +252,11 @@ IsDueOn r plan names nets mode threshold until budget wanted due =
     (HasTimelines plan nets mode × (IsWithinOn r plan names nets mode threshold until budget wanted due ⊎ IsOverOn r plan names nets mode threshold until budget due))
     ⊎ HasTooMany plan nets mode due
 
--- the text of the records before a time, where the run is ended there: no timeline has more events than the budget before it
+-- the text of the records before a time, at most a tick after the end, where the run is ended there: no timeline has more events than the
+-- budget before it
 pub record IsMidwayOn {B S P : Type 0} (r : Reaction S P) (plan : Plan B S P) (names : Names) (nets : List ℕ) (mode : Mode) (threshold until budget below : ℕ) (text : List ℕ) : Type 0 where
   pub few : HasTimelines plan nets mode
+  pub inside : below ≤ until + 1
   pub in_budget : OnTimelines r plan nets mode threshold until budget (λ s. IsInBudget s budget below)
   pub entries : List Entry
   pub before : AreRecordsBelow r plan until budget below entries

@@ -7,7 +7,7 @@ ghost use Rattle.net_graph.specs.declared.rows.HostRow.{HostRow};
 ghost use Rattle.ssfnet_top.specs.Counts.{counted, network_line, ring_line};
 ghost use Rattle.ssfnet_top.specs.Outcome.{resolved_of, counts_in, counts_of, IsText};
 ghost use Rattle.ssfnet_top.specs.FilePlaces.{ArePlaced};
-ghost use Rattle.ssfnet_top.specs.Ending.{Answers, IsOfCommand, IsOfModel};
+ghost use Rattle.ssfnet_top.specs.Answering.{Answers, IsOfCommand, IsOfModel};
 
 use crate::Refusal;
 use crate::resolving::resolve_files;

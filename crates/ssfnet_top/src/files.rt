@@ -3,7 +3,8 @@ ghost use Rattle.std.specs.Prelude.{◌≡◌, ◌≤◌, ◌<◌, ◌^◌, ◌�
 ghost use Rattle.sim_base.specs.Outside.{Rose};
 ghost use Rattle.ssfnet_top.specs.Refusals.{status_of};
 ghost use Rattle.ssfnet_top.specs.Outcome.{IsFileRead, AreRead};
-ghost use Rattle.ssfnet_top.specs.Ending.{IsOfFiles, IsReached};
+ghost use Rattle.ssfnet_top.specs.Answering.{IsOfFiles};
+ghost use Rattle.ssfnet_top.specs.Ending.{IsReached};
 ghost use Rattle.ssfnet_top.specs.FilePlaces.{AllPlaces, ArePlaced};
 
 use crate::Refusal;

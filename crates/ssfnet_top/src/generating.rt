@@ -4,7 +4,7 @@ ghost use Rattle.sim_base.specs.Outside.{Rose};
 ghost use Rattle.model_gen.specs.Campus.{campus_text};
 ghost use Rattle.command_words.specs.Table.{LargestSize};
 ghost use Rattle.ssfnet_top.specs.Outcome.{IsText};
-ghost use Rattle.ssfnet_top.specs.Ending.{Answers};
+ghost use Rattle.ssfnet_top.specs.Answering.{Answers};
 
 use crate::Refusal;
 use crate::writing::write_answer;

@@ -2,6 +2,7 @@
 ghost use Rattle.std.specs.Prelude.{◌≡◌, ℕ, List, Some};
 ghost use Rattle.sim_base.specs.Outside.{Files};
 ghost use Rattle.model_gen.specs.Campus.{campus_text};
+ghost use Rattle.command_words.specs.declared.command.Align.{Align as AlignValue};
 ghost use Rattle.command_words.specs.declared.command.Command.TheVariants as commands;
 ghost use Rattle.command_words.specs.Words.{Asked, asked_of_words};
 ghost use Rattle.ssfnet_top.specs.Outcome.{Due, done, IsOutcome, IsMidway};
@@ -18,6 +19,14 @@ pub fn outcomes_are_one()
 /// of the same words with the same files.
 pub fn middles_begin_outcomes()
     ensures { (files : Files) (words : List (List ℕ)) (below : ℕ) (text : List ℕ) (due : Due) → IsMidway files words below text → IsOutcome files words due → Begins text due.out }
+{}
+
+/// Words of `seq` and words of `step` with the same files and the same time up to which they run have the same trace on
+/// `out`, where both end with status 0.
+pub fn both_ways_write_the_same()
+    ensures { (files : Files) (words others : List (List ℕ)) (one two : Asked) (until budget most threshold : ℕ) (aligned : AlignValue) (due other : Due)
+        → asked_of_words words ≡ Some one → one.command ≡ commands.Seq until budget → asked_of_words others ≡ Some two → two.command ≡ commands.Step until most aligned threshold
+        → one.files ≡ two.files → IsOutcome files words due → IsOutcome files others other → due.status ≡ 0 → other.status ≡ 0 → due.out ≡ other.out }
 {}
 
 /// The outcome of the words of `gen` is the text of a campus, whatever the files are.

@@ -16,6 +16,7 @@ mod model;
 mod planning;
 mod printing;
 mod refusal;
+mod reporting;
 mod resolving;
 mod running;
 mod seq;

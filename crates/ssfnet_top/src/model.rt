@@ -1,5 +1,5 @@
 //! Running models: from a tree to its plan, and to the run of the plan in the way that is asked.
-ghost use Rattle.std.specs.Prelude.{◌≡◌, ◌≤◌, ◌⊎◌, ℕ, List, [], true, false, Err, Some, option_map, length, map, string_bytes, IfOk, IfErr, IsOkAnd, OnOk};
+ghost use Rattle.std.specs.Prelude.{◌≡◌, ◌≤◌, ◌⊎◌, ℕ, List, [], true, false, Err, None, Some, option_map, length, map, string_bytes, IfOk, IfErr, IsOkAnd, OnOk};
 ghost use Rattle.dml_tree.specs.TreeView.{attributes};
 ghost use Rattle.net_graph.specs.Keys.{has_net};
 ghost use Rattle.net_build.specs.RingModel.{HasFewTokens};
@@ -9,12 +9,13 @@ ghost use Rattle.ip_layer.specs.Packets.{IsPacket};
 ghost use Rattle.ssf_model.specs.Run.{Fits};
 ghost use Rattle.command_words.specs.Schedule.{is_schedule};
 ghost use Rattle.command_words.specs.Table.{LatestUntil, LargestBudget};
+ghost use Rattle.sync_steps.specs.Schedules.{steps_of};
 ghost use Rattle.sim_base.specs.Outside.{Rose, Appends};
 ghost use Rattle.ssfnet_top.specs.Refusals.{status_of};
 ghost use Rattle.ssfnet_top.specs.Outcome.{Course, resolved_of, planned_network, IsCourse, IsRunIn, IsModelRun};
 ghost use Rattle.ssfnet_top.specs.Outcome.Course.{Ended, Midway};
 ghost use Rattle.ssfnet_top.specs.FilePlaces.{ArePlaced};
-ghost use Rattle.ssfnet_top.specs.Ending.{Answers, AnswersMidway, IsOfModel, IsOfRun, IsToldBy, IsUntold, told_text};
+ghost use Rattle.ssfnet_top.specs.Answering.{Answers, AnswersMidway, IsOfModel, IsOfRun, IsOnTimelines, IsToldBy, IsUntold, told_text};
 
 use crate::Refusal;
 use crate::resolving::resolve_files;
@@ -49,7 +50,6 @@ pub fn run_model<K: Sink>(
     told: &mut Told,
 ) -> Result<(), Refusal>
     requires until { running.now.until ≤ LatestUntil }
-    requires least { 1 ≤ running.now.budget }
     requires budget { running.now.budget ≤ LargestBudget }
     requires placed { ArePlaced (map string_bytes names.now) tree.now }
     requires untold { IsUntold told.old }
@@ -59,6 +59,7 @@ pub fn run_model<K: Sink>(
     ensures write { IfErr result (λ r. r ≡ Refusal.Write → Rose (K.faults out.old) (K.faults out.new)) }
     ensures told { OnOk result (IsToldBy running.now.way running.now.report (told_text told.new)) }
     ensures nothing { IfErr result (λ r. IsOfModel (map string_bytes names.now) r → ¬ (r ≡ Refusal.Memory) → Appends [] (K.held out.old) (K.held out.new)) }
+    ensures unbegun { IfErr result (λ r. r ≡ Refusal.Memory → IsOnTimelines running.now.way → Appends [] (K.held out.old) (K.held out.new)) }
 {
     match resolve_files(alloc, names, tree) {
         Ok(resolved) => run_resolved(alloc, running, schedule, &resolved, out, told),
@@ -77,7 +78,6 @@ pub fn run_scheduled<K: Sink>(
     told: &mut Told,
 ) -> Result<(), Refusal>
     requires until { running.now.until ≤ LatestUntil }
-    requires least { 1 ≤ running.now.budget }
     requires budget { running.now.budget ≤ LargestBudget }
     requires placed { ArePlaced (map string_bytes names.now) tree.now }
     requires untold { IsUntold told.old }
@@ -88,6 +88,7 @@ pub fn run_scheduled<K: Sink>(
     ensures write { IfErr result (λ r. r ≡ Refusal.Write → Rose (K.faults out.old) (K.faults out.new)) }
     ensures told { OnOk result (IsToldBy running.now.way running.now.report (told_text told.new)) }
     ensures nothing { IfErr result (λ r. IsOfModel (map string_bytes names.now) r → ¬ (r ≡ Refusal.Memory) → Appends [] (K.held out.old) (K.held out.new)) }
+    ensures unbegun { IfErr result (λ r. r ≡ Refusal.Memory → IsOnTimelines running.now.way → Appends [] (K.held out.old) (K.held out.new)) }
 {
     match schedule_of(alloc, schedule) {
         Ok(steps) => run_model(alloc, running, steps.as_slice(), names, tree, out, told),
@@ -97,7 +98,9 @@ pub fn run_scheduled<K: Sink>(
 
 /// The steps of a schedule, and none without one.
 fn schedule_of(alloc: Global, schedule: &Option<String>) -> Result<Vec<Step>, Memory>
-    requires { (word : List ℕ) → option_map string_bytes schedule.now ≡ Some word → is_schedule word ≡ true }
+    requires spelt { (word : List ℕ) → option_map string_bytes schedule.now ≡ Some word → is_schedule word ≡ true }
+    ensures none { option_map string_bytes schedule.now ≡ None → IfOk result (λ steps. steps.items ≡ []) }
+    ensures read { (word : List ℕ) → option_map string_bytes schedule.now ≡ Some word → IfOk result (λ steps. steps_of word ≡ Some steps.items) }
 {
     let Some(word) = schedule else {
         return Ok(Vec::new(alloc));
@@ -119,7 +122,6 @@ fn run_resolved<K: Sink>(
     told: &mut Told,
 ) -> Result<(), Refusal>
     requires until { running.now.until ≤ LatestUntil }
-    requires least { 1 ≤ running.now.budget }
     requires budget { running.now.budget ≤ LargestBudget }
     requires few { HasFewTokens (attributes tree.now) }
     requires untold { IsUntold told.old }
@@ -129,6 +131,7 @@ fn run_resolved<K: Sink>(
     ensures write { IfErr result (λ r. r ≡ Refusal.Write → Rose (K.faults out.old) (K.faults out.new)) }
     ensures told { OnOk result (IsToldBy running.now.way running.now.report (told_text told.new)) }
     ensures nothing { IfErr result (λ r. status_of r ≡ 6 → Appends [] (K.held out.old) (K.held out.new)) }
+    ensures unbegun { IfErr result (λ r. r ≡ Refusal.Memory → IsOnTimelines running.now.way → Appends [] (K.held out.old) (K.held out.new)) }
 {
     if is_net(tree) {
         run_network(alloc, running, schedule, tree, out, told)
@@ -147,7 +150,6 @@ fn run_network<K: Sink>(
     told: &mut Told,
 ) -> Result<(), Refusal>
     requires until { running.now.until ≤ LatestUntil }
-    requires least { 1 ≤ running.now.budget }
     requires budget { running.now.budget ≤ LargestBudget }
     requires untold { IsUntold told.old }
     ensures due { Answers (λ due. IsRunIn running.now true (attributes tree.now) (Ended due)) (told_text told.new) result (K.faults out.old) (K.faults out.new) (K.held out.old) (K.held out.new)
@@ -156,6 +158,7 @@ fn run_network<K: Sink>(
     ensures write { IfErr result (λ r. r ≡ Refusal.Write → Rose (K.faults out.old) (K.faults out.new)) }
     ensures told { OnOk result (IsToldBy running.now.way running.now.report (told_text told.new)) }
     ensures nothing { IfErr result (λ r. status_of r ≡ 6 → Appends [] (K.held out.old) (K.held out.new)) }
+    ensures unbegun { IfErr result (λ r. r ≡ Refusal.Memory → IsOnTimelines running.now.way → Appends [] (K.held out.old) (K.held out.new)) }
 {
     match build_hosts(alloc, tree) {
         Ok(built) => simulate(alloc, built, running, schedule, out, told),
@@ -169,7 +172,6 @@ fn build_hosts(alloc: Global, tree: &Tree) -> Result<Built<Host>, ShapeFault>
     ensures fits { IfOk result (λ built. Fits IsHost IsPacket built.plan) }
     ensures named { IfOk result (λ built. length built.names.names ≡ length built.plan.entities) }
     ensures nets { IfOk result (λ built. length built.nets ≡ length built.plan.entities) }
-    ensures before { IfOk result (λ built. built.plan.before ≡ 0) }
     ensures cause { IfErr result (λ fault. (fault ≡ ShapeFault.Memory) ⊎ (planned_network (attributes tree.now) ≡ Err fault)) }
 {
     let network = build_network(alloc, tree)?;
@@ -187,7 +189,6 @@ fn run_ring<K: Sink>(
     told: &mut Told,
 ) -> Result<(), Refusal>
     requires until { running.now.until ≤ LatestUntil }
-    requires least { 1 ≤ running.now.budget }
     requires budget { running.now.budget ≤ LargestBudget }
     requires model { has_net (attributes tree.now) ≡ false }
     requires few { HasFewTokens (attributes tree.now) }
@@ -198,6 +199,7 @@ fn run_ring<K: Sink>(
     ensures write { IfErr result (λ r. r ≡ Refusal.Write → Rose (K.faults out.old) (K.faults out.new)) }
     ensures told { OnOk result (IsToldBy running.now.way running.now.report (told_text told.new)) }
     ensures nothing { IfErr result (λ r. status_of r ≡ 6 → Appends [] (K.held out.old) (K.held out.new)) }
+    ensures unbegun { IfErr result (λ r. r ≡ Refusal.Memory → IsOnTimelines running.now.way → Appends [] (K.held out.old) (K.held out.new)) }
 {
     match ring_plan(alloc, tree) {
         Ok(built) => simulate(alloc, built, running, schedule, out, told),
@@ -218,9 +220,7 @@ fn simulate<B: Behaviour, K: Sink>(
     requires named { length built.names.names ≡ length built.plan.entities }
     requires nets { length built.nets ≡ length built.plan.entities }
     requires until { running.now.until ≤ LatestUntil }
-    requires least { 1 ≤ running.now.budget }
     requires budget { running.now.budget ≤ LargestBudget }
-    requires before { built.plan.before ≡ 0 }
     requires untold { IsUntold told.old }
     ensures due { Answers (λ due. IsCourse (B.reaction built.plan.behaviour) built running.now (Ended due)) (told_text told.new) result (K.faults out.old) (K.faults out.new) (K.held out.old) (K.held out.new)
         ⊎ AnswersMidway (λ below text. IsCourse (B.reaction built.plan.behaviour) built running.now (Midway below text)) result (K.faults out.old) (K.faults out.new) (K.held out.old) (K.held out.new) }
@@ -228,6 +228,7 @@ fn simulate<B: Behaviour, K: Sink>(
     ensures write { IfErr result (λ r. r ≡ Refusal.Write → Rose (K.faults out.old) (K.faults out.new)) }
     ensures told { OnOk result (IsToldBy running.now.way running.now.report (told_text told.new)) }
     ensures nothing { IfErr result (λ r. status_of r ≡ 6 → Appends [] (K.held out.old) (K.held out.new)) }
+    ensures unbegun { IfErr result (λ r. r ≡ Refusal.Memory → IsOnTimelines running.now.way → Appends [] (K.held out.old) (K.held out.new)) }
 {
     let Running {
         until,

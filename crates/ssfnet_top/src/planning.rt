@@ -6,7 +6,7 @@ ghost use Rattle.net_graph.specs.Keys.{has_net};
 ghost use Rattle.net_build.specs.RingModel.{HasFewTokens};
 ghost use Rattle.ssfnet_top.specs.Outcome.{done, refused, resolved_of, IsPlan, IsPlanIn};
 ghost use Rattle.ssfnet_top.specs.FilePlaces.{ArePlaced};
-ghost use Rattle.ssfnet_top.specs.Ending.{Answers, IsOfCommand, IsOfModel};
+ghost use Rattle.ssfnet_top.specs.Answering.{Answers, IsOfCommand, IsOfModel};
 
 use crate::Refusal;
 use crate::resolving::resolve_files;

@@ -3,7 +3,7 @@ ghost use Rattle.std.specs.Prelude.{◌≡◌, ◌⊎◌, [], map, string_bytes,
 ghost use Rattle.sim_base.specs.Outside.{Rose, Appends};
 ghost use Rattle.ssfnet_top.specs.Outcome.{resolved_of, IsPrinted};
 ghost use Rattle.ssfnet_top.specs.FilePlaces.{ArePlaced};
-ghost use Rattle.ssfnet_top.specs.Ending.{Answers, IsOfCommand, IsOfModel};
+ghost use Rattle.ssfnet_top.specs.Answering.{Answers, IsOfCommand, IsOfModel};
 
 use crate::Refusal;
 use crate::resolving::resolve_files;

@@ -3,7 +3,8 @@ ghost use Rattle.std.specs.Prelude.{◌≡◌, ◌<◌, ◌≤◌, ◌⊎◌, Ok
 ghost use Rattle.dml_resolve.specs.Resolving.{counted_weight, most_weight};
 ghost use Rattle.ssfnet_top.specs.Outcome.{file_name, file_of_fault, resolved_of};
 ghost use Rattle.ssfnet_top.specs.FilePlaces.{ArePlaced, IsPlaced};
-ghost use Rattle.ssfnet_top.specs.Ending.{IsFaultOf, IsOfModel};
+ghost use Rattle.ssfnet_top.specs.Answering.{IsOfModel};
+ghost use Rattle.ssfnet_top.specs.Ending.{IsFaultOf};
 
 use crate::Refusal;
 use dml_resolve::{PathFault, resolve};

@@ -1,22 +1,20 @@
 //! The command `seq`: the run of a plan by one event list, and its trace.
-ghost use Rattle.std.specs.Prelude.{◌≡◌, ◌+◌, ◌≤◌, ◌⊎◌, ◌++◌, [], true, length, vec_len, IfErr, OnOk};
-ghost use Rattle.std.specs.Vec.{vec_capacity};
+ghost use Rattle.std.specs.Prelude.{◌≡◌, ◌≤◌, ◌⊎◌, [], length, IfErr, OnOk};
 ghost use Rattle.ssf_model.specs.Run.{Fits};
 ghost use Rattle.command_words.specs.Table.{LatestUntil, LargestBudget};
 ghost use Rattle.sim_base.specs.Outside.{Rose};
 ghost use Rattle.ssfnet_top.specs.Outcome.{IsRunDue};
-ghost use Rattle.ssfnet_top.specs.Ending.{report_with_if, Answers, IsReport};
+ghost use Rattle.ssfnet_top.specs.Answering.{Answers};
+ghost use Rattle.ssfnet_top.specs.Ending.{IsReport};
 
 use crate::Refusal;
+use crate::reporting::{add_report, make_room};
 use list_run::{ListEnd, ListFault, run_list};
 use net_build::Built;
 use sim_base::{Memory, Sink};
 use ssf_model::Behaviour;
 use std::alloc::Global;
 use trace_writer::Tally;
-
-/// The greatest length of a report, in bytes.
-const REPORT_ROOM: usize = 374;
 
 /// Runs a plan by one event list up to `until`, in ticks, and at most `budget` events, and writes
 /// the trace while it goes on. Where a report is wanted, appends it to `report`; the room for it is taken
@@ -36,9 +34,7 @@ pub fn run_by_list<B: Behaviour, K: Sink>(
     requires plan { Fits (B.valid built.plan.behaviour) (B.carried built.plan.behaviour) built.plan }
     requires named { length built.names.names ≡ length built.plan.entities }
     requires until { until ≤ LatestUntil }
-    requires least { 1 ≤ budget }
     requires budget { budget ≤ LargestBudget }
-    requires before { built.plan.before ≡ 0 }
     requires empty { report.old.items ≡ [] }
     ensures due { Answers (IsRunDue (B.reaction built.plan.behaviour) built.plan built.names until budget wanted) report.new.items result (K.faults out.old) (K.faults out.new) (K.held out.old) (K.held out.new) }
     ensures cause { IfErr result (λ r. (r ≡ Refusal.Memory) ⊎ ((r ≡ Refusal.Write) ⊎ (r ≡ Refusal.Budget budget))) }
@@ -62,31 +58,5 @@ pub fn run_by_list<B: Behaviour, K: Sink>(
         Ok(ListEnd::OverBudget) => Err(Refusal::Budget(budget)),
         Err(ListFault::Write) => Err(Refusal::Write),
         Err(ListFault::Memory) => Err(Refusal::Memory),
-    }
-}
-
-/// Takes the room for a report where one is wanted.
-fn make_room(wanted: bool, report: &mut Vec<u8>) -> Result<(), Memory>
-    ensures same { report.new.items ≡ report.old.items }
-    ensures room { OnOk result (wanted ≡ true → vec_len report.new + REPORT_ROOM ≤ vec_capacity report.new) }
-{
-    if !wanted {
-        return Ok(());
-    }
-    report.reserve(REPORT_ROOM)?;
-    Ok(())
-}
-
-/// Appends the report of a tally where one is wanted.
-fn add_report(wanted: bool, tally: &Tally, report: &mut Vec<u8>)
-    requires room { wanted ≡ true → vec_len report.old + REPORT_ROOM ≤ vec_capacity report.old }
-    ensures { report.new.items ≡ report.old.items ++ report_with_if wanted tally.now }
-{
-    if !wanted {
-        return;
-    }
-    match tally.text(report) {
-        Ok(()) => (),
-        Err(Memory) => unreachable!(),
     }
 }

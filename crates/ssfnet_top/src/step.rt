@@ -7,9 +7,11 @@ ghost use Rattle.sim_base.specs.Outside.{Rose, Appends};
 ghost use Rattle.trace_writer.specs.Report.{report_with};
 ghost use Rattle.ssfnet_top.specs.Refusals.{status_of};
 ghost use Rattle.ssfnet_top.specs.Outcome.{IsDueOn, IsMidwayOn};
-ghost use Rattle.ssfnet_top.specs.Ending.{Answers, AnswersMidway, IsLongReport, IsUntold, told_text, told_with, IsOfSteps};
+ghost use Rattle.ssfnet_top.specs.Answering.{Answers, AnswersMidway, IsUntold, told_text, told_with, IsOfSteps};
+ghost use Rattle.ssfnet_top.specs.Ending.{IsLongReport};
 
 use crate::Refusal;
+use crate::reporting::{self, REPORT_ROOM};
 use crate::running::Told;
 use net_build::Built;
 use net_graph::ShapeFault;
@@ -18,9 +20,6 @@ use ssf_model::Behaviour;
 use std::alloc::Global;
 use step_run::{StepEnd, StepOrder, run_steps};
 use trace_writer::Tally;
-
-/// The greatest length of a report, in bytes.
-const REPORT_ROOM: usize = 374;
 
 /// Runs a plan on timelines, and writes the trace while it goes on. Where a report is wanted, tells it and the windows; the room for
 /// it is taken before the run.
@@ -48,6 +47,7 @@ pub fn run_on_timelines<B: Behaviour, K: Sink>(
     ensures write { IfErr result (λ r. r ≡ Refusal.Write → Rose (K.faults out.old) (K.faults out.new)) }
     ensures told { OnOk result (IsLongReport report (told_text told.new)) }
     ensures nothing { IfErr result (λ r. status_of r ≡ 6 → Appends [] (K.held out.old) (K.held out.new)) }
+    ensures unbegun { IfErr result (λ r. r ≡ Refusal.Memory → Appends [] (K.held out.old) (K.held out.new)) }
 {
     let Built { plan, names, nets } = built;
     if let Err(Memory) = make_room(report, told) {
@@ -79,11 +79,7 @@ fn make_room(report: bool, told: &mut Told) -> Result<(), Memory>
     ensures untold { IsUntold told.new }
     ensures room { OnOk result (report ≡ true → vec_len told.new.report + REPORT_ROOM ≤ vec_capacity told.new.report) }
 {
-    if !report {
-        return Ok(());
-    }
-    told.report.reserve(REPORT_ROOM)?;
-    Ok(())
+    reporting::make_room(report, &mut told.report)
 }
 
 /// Tells the report of a run and its windows, where one is wanted.

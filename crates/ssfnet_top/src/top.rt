@@ -8,7 +8,8 @@ ghost use Rattle.command_words.specs.Words.{asked_of_words, IsAlignInRange, IsIn
 ghost use Rattle.ssfnet_top.specs.Refusals.{status_of, line_of};
 ghost use Rattle.ssfnet_top.specs.Outcome.{asked_of, mode_of, windows_line, IsCommandDue, IsCommandMidway, IsOutcome, IsMidway, refusal_line};
 ghost use Rattle.ssfnet_top.specs.FilePlaces.{ArePlaced};
-ghost use Rattle.ssfnet_top.specs.Ending.{Ends, Concerns, Answers, AnswersMidway, IsMade, IsUntold, told_text, IsReadFault, IsOfCommand, IsOfModel, IsTold, IsLineCut, IsReportCut, IsReportTold, IsToldOf, HasGenerated, HasTold, Tells, WantsReport};
+ghost use Rattle.ssfnet_top.specs.Answering.{Answers, AnswersMidway, IsMade, IsUntold, told_text, IsReadFault, IsOfCommand, IsOfModel, IsTold, IsReportTold};
+ghost use Rattle.ssfnet_top.specs.Ending.{Ends, Concerns, HasMiddle, MayEndMidway, IsLineCut, IsReportCut, IsToldOf, HasGenerated, HasTold, Tells, WantsReport};
 
 use crate::Refusal;
 use crate::checking::print_counts;
@@ -97,6 +98,7 @@ fn answer<L: Library, K: Sink>(
     ensures read { IfErr result (λ r. status_of r ≡ 3 → Rose (L.faults library.old) (L.faults library.new)) }
     ensures write { IfErr result (λ r. r ≡ Refusal.Write → Rose (K.faults out.old) (K.faults out.new)) }
     ensures nothing { IfErr result (λ r. 2 ≤ status_of r → status_of r ≤ 6 → Appends [] (K.held out.old) (K.held out.new)) }
+    ensures unbegun { IfErr result (λ r. r ≡ Refusal.Memory → MayEndMidway (asked_of_words (map string_bytes words.now)) → Appends [] (K.held out.old) (K.held out.new)) }
     ensures generated { OnOk result (HasGenerated (asked_of_words (map string_bytes words.now)) (K.held out.old) (K.held out.new)) }
     ensures told { OnOk result (IsToldOf (asked_of_words (map string_bytes words.now)) (told_text told.new)) }
 {
@@ -129,6 +131,7 @@ fn act<K: Sink>(
     ensures cause { IfErr result (λ r. IsOfCommand request.now.command (map string_bytes request.now.files.items) r) }
     ensures write { IfErr result (λ r. r ≡ Refusal.Write → Rose (K.faults out.old) (K.faults out.new)) }
     ensures nothing { IfErr result (λ r. IsOfModel (map string_bytes request.now.files.items) r → ¬ (r ≡ Refusal.Memory) → Appends [] (K.held out.old) (K.held out.new)) }
+    ensures unbegun { IfErr result (λ r. r ≡ Refusal.Memory → HasMiddle request.now.command → Appends [] (K.held out.old) (K.held out.new)) }
     ensures told { OnOk result (Tells request.now.command request.now.report (told_text told.new)) }
 {
     let names = request.files.as_slice();

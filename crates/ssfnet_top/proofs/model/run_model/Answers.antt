@@ -1,5 +1,5 @@
 use Rattle.std.proofs.Common.{sym, Ok}
-use Rattle.ssfnet_top.specs.Ending.{told_text}
+use Rattle.ssfnet_top.specs.Answering.{told_text}
 use Rattle.ssfnet_top.proofs.Courses.{run_of_model}
 use Rattle.ssfnet_top.proofs.Weights.{few_tokens}
 use Rattle.ssfnet_top.proofs.model.run_model.Goals as goal

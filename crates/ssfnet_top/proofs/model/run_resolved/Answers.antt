@@ -1,7 +1,7 @@
 use Rattle.std.proofs.Common.{◌∙◌, sym, true, false}
 use Rattle.dml_tree.specs.TreeView.{attributes}
 use Rattle.net_graph.specs.Keys.{has_net}
-use Rattle.ssfnet_top.specs.Ending.{told_text}
+use Rattle.ssfnet_top.specs.Answering.{told_text}
 use Rattle.ssfnet_top.proofs.Courses.{run_of_tree}
 use Rattle.ssfnet_top.proofs.model.run_resolved.Goals as goal
 

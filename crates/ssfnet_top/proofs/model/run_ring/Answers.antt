@@ -3,12 +3,9 @@ use Rattle.dml_tree.specs.TreeView.{attributes}
 use Rattle.net_build.specs.RingModel.{ring_plan_of}
 use Rattle.ring_model.specs.Reacting.{ring_reaction}
 use Rattle.ssfnet_top.specs.Outcome.{IsCourse, IsRingRun}
-use Rattle.ssfnet_top.proofs.Naming.{plan_before, ring_nets}
+use Rattle.ssfnet_top.proofs.Naming.{ring_nets}
 use Rattle.ssfnet_top.proofs.Courses.{course_by, ring_run}
 use Rattle.ssfnet_top.proofs.model.run_ring.Goals as goal
-
-pub simulate-requires-clause-before : goal.simulate-requires-clause-before
-simulate-requires-clause-before g c κs within = plan_before (attributes c.args.tree.now) c.in-Ok.built c.in-Ok.ensures.built
 
 pub simulate-requires-clause-nets : goal.simulate-requires-clause-nets
 simulate-requires-clause-nets g c κs within = ring_nets (attributes c.args.tree.now) c.in-Ok.built c.in-Ok.ensures.built ∙ c.in-Ok.ensures.named

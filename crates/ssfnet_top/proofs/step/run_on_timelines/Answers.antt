@@ -1,6 +1,6 @@
 use Rattle.step_run.specs.Endings.{HasStoppedAt}
 use Rattle.step_run.specs.declared.running.StepEnd.TheVariants as end
-use Rattle.ssfnet_top.specs.Ending.{told_text}
+use Rattle.ssfnet_top.specs.Answering.{told_text}
 use Rattle.ssfnet_top.proofs.Stepping.{with_nets, if_finished, if_over, if_below, if_many, if_write, if_begun, if_not_begun, gives_whole, tells_whole, gives_over, gives_below, gives_nothing, gives_many, gives_part}
 use Rattle.ssfnet_top.proofs.step.run_on_timelines.Goals as goal
 
@@ -48,7 +48,7 @@ returns-in-MemoryBelow-clause-due g c =
     let is = c.in-MemoryBelow.is in
     with_nets r b.plan b.names b.nets c.as_slice.result.now o.mode o.threshold o.until o.budget c.args.report (g.K.Sink.faults c.args.out.now) (g.K.Sink.faults c.run_steps.new.out) (g.K.Sink.held c.args.out.now) (g.K.Sink.held c.run_steps.new.out) (told_text c.make_room.new.told) _ c.as_slice.ensures
     (gives_below r b.plan b.names c.as_slice.result.now o.mode o.threshold o.until o.budget c.args.report (g.K.Sink.faults c.args.out.now) (g.K.Sink.faults c.run_steps.new.out) (g.K.Sink.held c.args.out.now) (g.K.Sink.held c.run_steps.new.out)
-    c.in-MemoryBelow.below (told_text c.make_room.new.told) (if_begun e (end.MemoryBelow c.in-MemoryBelow.below) _ is c.run_steps.ensures.begun)
+    c.in-MemoryBelow.below (told_text c.make_room.new.told) (if_begun e (end.MemoryBelow c.in-MemoryBelow.below) _ is c.run_steps.ensures.begun) (if_below e _ _ is c.run_steps.ensures.inside)
     (if_below e _ _ is c.run_steps.ensures.in_budget) (if_below e _ _ is c.run_steps.ensures.memory_below))
 
 pub returns-in-Memory-clause-due : goal.returns-in-Memory-clause-due
@@ -86,3 +86,6 @@ returns-clause-due g c =
 
 pub returns-clause-write : goal.returns-clause-write
 returns-clause-write g c = λ failed. if_write c.run_steps.result _ c.in-Write.is c.run_steps.ensures.cause
+
+pub returns-in-Memory-clause-unbegun : goal.returns-in-Memory-clause-unbegun
+returns-in-Memory-clause-unbegun g c = λ short. if_not_begun c.run_steps.result end.Memory _ c.in-Memory.is c.run_steps.ensures.nothing

@@ -1,12 +1,12 @@
-use Rattle.std.proofs.Common.{rules, true, subst, map, string_bytes, IfErr, ◌⊎◌}
+use Rattle.std.proofs.Common.{rules, true, false, subst, map, string_bytes, IfErr, ◌⊎◌}
 use Rattle.alignment.specs.declared.labels.Mode.{Mode}
 use Rattle.command_words.specs.declared.command.Command.TheVariants as commands
 use Rattle.ssfnet_top.specs.declared.running.Running.{Running}
 use Rattle.ssfnet_top.specs.declared.running.Way.TheVariants as way
 use Rattle.ssfnet_top.specs.Outcome.{resolved_of, IsModelRun}
 use Rattle.ssfnet_top.specs.Outcome.Course.{Ended, Midway}
-use Rattle.ssfnet_top.specs.Ending.{Answers, AnswersMidway, IsOfModel, IsOfRun, told_text}
-use Rattle.ssfnet_top.proofs.Acting.{acted, acted_quietly, caused, untold_text, listed, listed_cause, stepped_cause}
+use Rattle.ssfnet_top.specs.Answering.{Answers, AnswersMidway, IsOfModel, IsOfRun, told_text}
+use Rattle.ssfnet_top.proofs.Acting.{unbegun_without, unbegun_stepped, acted, acted_quietly, caused, untold_text, listed, listed_cause, stepped_cause}
 use Rattle.ssfnet_top.proofs.top.act.Goals as goal
 
 pub returns-in-Dml-true-clause-due : goal.returns-in-Dml-true-clause-due
@@ -82,3 +82,31 @@ pub returns-in-Gen-clause-due : goal.returns-in-Gen-clause-due
 returns-in-Gen-clause-due g c =
     acted_quietly c.args.request.now (commands.Gen c.in-Gen.seed c.in-Gen.size) c.as_slice-names.result.now c.in-Gen.is c.as_slice-names.ensures.value c.print_campus.result c.args.tree.now (told_text c.args.told.now)
     (g.K.Sink.faults c.args.out.now) (g.K.Sink.faults c.print_campus.new.out) (g.K.Sink.held c.args.out.now) (g.K.Sink.held c.print_campus.new.out) (untold_text c.args.told.now c.requires.untold) c.print_campus.ensures.due
+
+pub returns-in-Dml-false-clause-unbegun : goal.returns-in-Dml-false-clause-unbegun
+returns-in-Dml-false-clause-unbegun g c =
+    unbegun_without c.print_tree.result c.args.request.now.command (commands.Dml false) (g.K.Sink.held c.args.out.now) (g.K.Sink.held c.print_tree.new.out) (search rules) (λ middle. middle)
+
+pub returns-in-Dml-true-clause-unbegun : goal.returns-in-Dml-true-clause-unbegun
+returns-in-Dml-true-clause-unbegun g c =
+    unbegun_without c.print_resolved.result c.args.request.now.command (commands.Dml true) (g.K.Sink.held c.args.out.now) (g.K.Sink.held c.print_resolved.new.out) (search rules) (λ middle. middle)
+
+pub returns-in-Check-clause-unbegun : goal.returns-in-Check-clause-unbegun
+returns-in-Check-clause-unbegun g c =
+    unbegun_without c.print_counts.result c.args.request.now.command (commands.Check) (g.K.Sink.held c.args.out.now) (g.K.Sink.held c.print_counts.new.out) c.in-Check.is (λ middle. middle)
+
+pub returns-in-Plan-clause-unbegun : goal.returns-in-Plan-clause-unbegun
+returns-in-Plan-clause-unbegun g c =
+    unbegun_without c.print_plan.result c.args.request.now.command (commands.Plan) (g.K.Sink.held c.args.out.now) (g.K.Sink.held c.print_plan.new.out) c.in-Plan.is (λ middle. middle)
+
+pub returns-in-Seq-clause-unbegun : goal.returns-in-Seq-clause-unbegun
+returns-in-Seq-clause-unbegun g c =
+    unbegun_without c.run_model.result c.args.request.now.command (commands.Seq c.in-Seq.until c.in-Seq.budget) (g.K.Sink.held c.args.out.now) (g.K.Sink.held c.run_model.new.out) c.in-Seq.is (λ middle. middle)
+
+pub returns-in-Gen-clause-unbegun : goal.returns-in-Gen-clause-unbegun
+returns-in-Gen-clause-unbegun g c =
+    unbegun_without c.print_campus.result c.args.request.now.command (commands.Gen c.in-Gen.seed c.in-Gen.size) (g.K.Sink.held c.args.out.now) (g.K.Sink.held c.print_campus.new.out) c.in-Gen.is (λ middle. middle)
+
+pub returns-in-Step-clause-unbegun : goal.returns-in-Step-clause-unbegun
+returns-in-Step-clause-unbegun g c =
+    unbegun_stepped c.run_scheduled.result c.args.request.now.command (g.K.Sink.held c.args.out.now) (g.K.Sink.held c.run_scheduled.new.out) c.mode_of.result c.in-Step.threshold c.run_scheduled.ensures.unbegun

@@ -2,7 +2,8 @@ use Rattle.std.proofs.Common.{ap, map, string_bytes, List, String}
 use Rattle.std.specs.declared.alloc.Global.{Global}
 use Rattle.command_words.specs.Words.{asked_of_words}
 use Rattle.ssfnet_top.specs.Outcome.{asked_of}
-use Rattle.ssfnet_top.specs.Ending.{told_text}
+use Rattle.ssfnet_top.specs.Answering.{told_text}
+use Rattle.ssfnet_top.proofs.Acting.{asked_unbegun}
 use Rattle.ssfnet_top.proofs.Endings.{unread_answers}
 use Rattle.ssfnet_top.proofs.NoFiles.{campus_written}
 use Rattle.ssfnet_top.proofs.top.answer.Goals as goal
@@ -18,3 +19,7 @@ pub returns-in-Ok-read_files-clause-generated : goal.returns-in-Ok-read_files-cl
 returns-in-Ok-read_files-clause-generated g c =
     campus_written (asked_of_words (map string_bytes c.args.words.now)) (asked_of c.in-Ok.request) c.in-Ok-read_files.tree (told_text c.act.new.told) c.act.result
     (g.K.Sink.faults c.args.out.now) (g.K.Sink.faults c.act.new.out) (g.K.Sink.held c.args.out.now) (g.K.Sink.held c.act.new.out) c.in-Ok.ensures.ok c.act.ensures.due
+
+pub returns-in-Ok-read_files-clause-unbegun : goal.returns-in-Ok-read_files-clause-unbegun
+returns-in-Ok-read_files-clause-unbegun g c =
+    asked_unbegun c.act.result (asked_of_words (map string_bytes c.args.words.now)) (asked_of c.in-Ok.request) (g.K.Sink.held c.args.out.now) (g.K.Sink.held c.act.new.out) c.in-Ok.ensures.ok c.act.ensures.unbegun

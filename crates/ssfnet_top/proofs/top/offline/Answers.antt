@@ -1,5 +1,6 @@
 use Rattle.std.proofs.Common.{map, string_bytes}
-use Rattle.ssfnet_top.specs.Ending.{Outside, told_text}
+use Rattle.ssfnet_top.specs.Answering.{told_text}
+use Rattle.ssfnet_top.specs.Ending.{Outside}
 use Rattle.command_words.specs.Words.{asked_of_words}
 use Rattle.ssfnet_top.proofs.Endings.{told_refused, told_line, told_well, report_line, report_quiet, report_told}
 use Rattle.ssfnet_top.proofs.top.offline.Goals as goal
@@ -40,7 +41,7 @@ returns-clause-outcome g c =
       out = g.K.Sink.held c.answer.new.out;
       err = g.J.Sink.held c.tell.new.err;
     } in
-    told_refused (g.L.Library.files c.args.library.now) (map string_bytes c.args.words.now) before after (told_text c.answer.new.told) c.in-Err.refusal c.tell.result c.in-Err.ensures.outcome c.in-Err.ensures.concerns c.tell.ensures
+    told_refused (g.L.Library.files c.args.library.now) (map string_bytes c.args.words.now) before after (told_text c.answer.new.told) c.in-Err.refusal c.tell.result c.in-Err.ensures.outcome c.in-Err.ensures.concerns c.in-Err.ensures.unbegun c.in-Err.ensures.nothing c.tell.ensures
 
 pub returns-clause-line : goal.returns-clause-line
 returns-clause-line g c =

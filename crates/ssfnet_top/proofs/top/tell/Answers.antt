@@ -1,5 +1,5 @@
 use Rattle.std.proofs.Common.{◌≡◌, sym, subst}
-use Rattle.ssfnet_top.specs.Ending.{IsMade}
+use Rattle.ssfnet_top.specs.Answering.{IsMade}
 use Rattle.ssfnet_top.specs.declared.refusal.Refusal.TheVariants as refusal
 use Rattle.ssfnet_top.proofs.Endings.{said_memory, said_write}
 use Rattle.ssfnet_top.proofs.top.tell.Goals as goal

@@ -1,6 +1,6 @@
 use Rattle.std.proofs.Common.{◌++◌, ◌∙◌, ap, sym, subst, List, ℕ, Option}
 use Rattle.ssfnet_top.specs.Outcome.{windows_line}
-use Rattle.ssfnet_top.specs.Ending.{IsReportTold, windows_text}
+use Rattle.ssfnet_top.specs.Answering.{IsReportTold, windows_text}
 use Rattle.ssfnet_top.proofs.Pieced.{reported_by, some_told}
 use Rattle.ssfnet_top.proofs.top.tell_report.Goals as goal
 
