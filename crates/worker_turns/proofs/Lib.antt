@@ -1,0 +1,9 @@
+pub mod Lists
+pub mod Values
+pub mod Taking
+pub mod Executing
+pub mod Posting
+pub mod Posts
+pub mod Meeting
+pub mod Working
+pub mod Turning

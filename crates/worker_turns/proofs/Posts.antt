@@ -1,0 +1,116 @@
+-- What is asked on several channels, one after the other.
+use Rattle.std.proofs.Common.{◌≡◌, ℕ, ◌+◌, ◌≤◌, ◌<◌, ◌⊎◌, inl, inr, refl, sym, ap, ◌∙◌, subst, arith, Bool, true, false, nat_eq, ◌&&◌, List, ◌++◌, Some, None, slice_get}
+use Rattle.std.proofs.lemmas.Bool.{eqb-true}
+use Rattle.std.proofs.lemmas.List.Elements.{All-nil}
+use Rattle.std.proofs.Math.Nat.{eq-or-lt_of_le}
+use Rattle.event_order.proofs.Pending.{test_cases}
+use Rattle.ssf_model.specs.Reaction.{Reaction, Validity}
+use Rattle.turn_table.specs.declared.pass.Held.{Held}
+use Rattle.turn_table.specs.declared.view.View.{View}
+use Rattle.plan_shares.specs.declared.crosses.CrossEnd.{CrossEnd}
+use Rattle.core_rules.specs.Cores.{CoreView}
+use Rattle.share_rules.specs.Places.{mail_place}
+use Rattle.share_turns.specs.declared.share.Share.{Share}
+use Rattle.share_turns.specs.Holdings.{HasTimeline}
+use Rattle.sync_steps.specs.declared.steps.Step.{Step}
+use Rattle.sync_steps.specs.declared.steps.Step.TheVariants.{Post}
+use Rattle.sync_steps.specs.declared.steps.Stepped.TheVariants.{NotEnabled}
+use Rattle.worker_hands.specs.declared.hand.Answer.TheVariants.{Done}
+use Rattle.worker_hands.specs.declared.hand.Made.{Made}
+use Rattle.worker_hands.specs.Hands.{HandView, IsAsked}
+use Rattle.worker_hands.specs.Asked.{is_step, AreOf, runs_in, last_answer, WasNotEnabled}
+use Rattle.worker_turns.specs.Working.{HasLost, HasLostMore}
+use Rattle.worker_turns.specs.Turning.{IsPost, ArePostsOn, ArePostsAt, ArePosts}
+use Rattle.worker_turns.proofs.Values.{more_then}
+use Rattle.worker_turns.proofs.Lists.{asked_both, asked_more, asked_then, asked_nothing, last_later, last_earlier, last_none, runs_of_both, all_wider, all_of_both}
+
+lower : (j k : ℕ) → j < k + 1 → (j < k) ⊎ (j ≡ k)
+lower j k small = elim (eq-or-lt_of_le (let h : j ≤ k = omega arith in h)) [ inl same ↦ inr same | inr less ↦ inl less ]
+
+-- one post or another
+module _ (i : ℕ) where
+  post_other : (c d : ℕ) → nat_eq c d ≡ false → is_step (Post i c) (Post i d) ≡ false
+  post_other c d other = rw other (and_false (nat_eq i i))
+    where
+      and_false : (b : Bool) → (b && false) ≡ false
+      and_false true = refl
+      and_false false = refl
+
+  is_post : (c : ℕ) (step : Step) → step ≡ Post i c → IsPost i step
+  is_post c step is = (c, is)
+
+  -- on each channel: nothing, or what is said of this one
+  one_channel : (c d : ℕ) (ys : List Made) → AreOf (Post i d) ys → (last_answer (Post i d) ys ≡ None) ⊎ WasNotEnabled (Post i d) ys → (last_answer (Post i c) ys ≡ None) ⊎ WasNotEnabled (Post i c) ys
+  one_channel c d ys all said = elim (test_cases (nat_eq c d)) [
+    | inl same ↦ (let is : d ≡ c = sym (eqb-true c d same) in subst (λ e. (last_answer (Post i e) ys ≡ None) ⊎ WasNotEnabled (Post i e) ys) is said)
+    | inr other ↦ inl (last_none (Post i c) (λ s. s ≡ Post i d) (λ s is. ap (is_step (Post i c)) is ∙ post_other c d other) ys all)
+  ]
+
+  -- what was not enabled at the last stays so
+  stays_so : (c : ℕ) (xs ys : List Made) → (last_answer (Post i c) ys ≡ None) ⊎ WasNotEnabled (Post i c) ys → WasNotEnabled (Post i c) xs → WasNotEnabled (Post i c) (xs ++ ys)
+  stays_so c xs ys said before = elim said [
+    | inl none ↦ last_earlier (Post i c) xs ys none ∙ before
+    | inr later ↦ last_later (Post i c) xs ys (Done NotEnabled) later
+  ]
+
+module _ {B S P : Type 0} (key : CoreView B S P) (i : ℕ) where
+  pub posts_on_asked : (end : CrossEnd) (v w : View) (old new : HandView) → IsAsked old new (λ made. AreOf (Post i end.channel) made × (runs_in made ≡ 0)) → IsAsked old new (WasNotEnabled (Post i end.channel)) → IsAsked old new (ArePostsOn key i end v w)
+  posts_on_asked end v w old new asked done =
+      asked_more old new (λ made. (AreOf (Post i end.channel) made × (runs_in made ≡ 0)) × WasNotEnabled (Post i end.channel) made) (ArePostsOn key i end v w)
+      (λ made q. record { all = q.0.0; runs = q.0.1; done = inr q.1 })
+      (asked_both old new (λ made. AreOf (Post i end.channel) made × (runs_in made ≡ 0)) (WasNotEnabled (Post i end.channel)) asked done)
+
+  pub posts_begin : (v : View) (h : HandView) → IsAsked h h (ArePosts key 0 i v v)
+  posts_begin v h = asked_nothing h (ArePosts key 0 i v v) (record { all = All-nil (λ m. IsPost i m.step); runs = refl; done = λ k end none. absurd (omega arith) })
+
+  -- the end k is not one of this sender
+  pub posts_skipped : (k : ℕ) (end : CrossEnd) (v : View) (h : HandView) → slice_get key.ends k ≡ Some end → (end.sender ≡ i → ⊥) → IsAsked h h (ArePostsAt key k i v v)
+  posts_skipped k end v h found not_its = asked_nothing h (ArePostsAt key k i v v) (record {
+    all = All-nil (λ m. IsPost i m.step);
+    runs = refl;
+    still = λ c. inl refl;
+    done = λ other at of. (let both : Some end ≡ Some other = sym found ∙ at in let is : end ≡ other = cc in absurd (not_its (ap (λ (e : CrossEnd). e.sender) is ∙ of)));
+  })
+
+  -- the end k is one
+  pub posts_at : (k : ℕ) (end : CrossEnd) (v w : View) (old new : HandView) → slice_get key.ends k ≡ Some end → IsAsked old new (ArePostsOn key i end v w) → IsAsked old new (ArePostsAt key k i v w)
+  posts_at k end v w old new found = asked_more old new (ArePostsOn key i end v w) (ArePostsAt key k i v w) (λ made q. record {
+    all = all_wider (λ s. s ≡ Post i end.channel) (IsPost i) (is_post i end.channel) made q.all;
+    runs = q.runs;
+    still = λ c. one_channel i c end.channel made q.all (elim q.done [ inl was ↦ inl was.1 | inr later ↦ inr later ]);
+    done = λ other at of. (let both : Some end ≡ Some other = sym found ∙ at in let is : end ≡ other = cc in
+        subst (λ (x : CrossEnd). HasLost v w (mail_place key x.receiver) ⊎ WasNotEnabled (Post i x.channel) made) is (elim q.done [ inl was ↦ inl was.0 | inr later ↦ inr later ]));
+  })
+
+  pub posts_more : (k : ℕ) (v w z : View) (old mid new : HandView) → HasLostMore key v w → HasLostMore key w z
+      → IsAsked old mid (ArePosts key k i v w) → IsAsked mid new (ArePostsAt key k i w z) → IsAsked old new (ArePosts key (k + 1) i v z)
+  posts_more k v w z old mid new first second = asked_then old mid new (ArePosts key k i v w) (ArePostsAt key k i w z) (ArePosts key (k + 1) i v z) (λ xs ys p q. record {
+    all = all_of_both (IsPost i) xs ys p.all q.all;
+    runs = runs_of_both xs ys ∙ (let one = p.runs in let two = q.runs in omega arith);
+    done = λ j other small at of. elim (lower j k small) [
+      | inl before ↦ elim (p.done j other before at of) [
+        | inl lost_before ↦ inl (let up = second.rises (mail_place key other.receiver) in omega (arith, up, lost_before))
+        | inr none_last ↦ inr (stays_so i other.channel xs ys (q.still other.channel) none_last)
+      ]
+      | inr last ↦ elim (q.done other (ap (λ n. slice_get key.ends n) (sym last) ∙ at) of) [
+        | inl was ↦ inl (let up = first.rises (mail_place key other.receiver) in omega (arith, up, was))
+        | inr none_last ↦ inr (last_later (Post i other.channel) xs ys (Done NotEnabled) none_last)
+      ]
+    ];
+  })
+
+-- what is so after the first n ends
+pub record ArePostedUpTo {B S P : Type 0} (valid : B → Validity S) (carried : B → P → Type 0) (r : B → Reaction S P) (key : CoreView B S P) (n i : ℕ) (v w : View) (own : Held (Share B S P)) (old new : HandView) : Type 0 where
+  pub has : HasTimeline valid carried r key w i own
+  pub tries : HasLostMore key v w
+  pub asked : IsAsked old new (ArePosts key n i v w)
+
+module _ {B S P : Type 0} (valid : B → Validity S) (carried : B → P → Type 0) (r : B → Reaction S P) (key : CoreView B S P) (k i : ℕ) (v w : View) (own : Held (Share B S P)) (h0 h1 : HandView)
+    (so : ArePostedUpTo valid carried r key k i v w own h0 h1) where
+  pub up_to_more : (z : View) (own_after : Held (Share B S P)) (h2 : HandView) → HasTimeline valid carried r key z i own_after → HasLostMore key w z → IsAsked h1 h2 (ArePostsAt key k i w z)
+      → ArePostedUpTo valid carried r key (k + 1) i v z own_after h0 h2
+  up_to_more z own_after h2 has tries asked = record {
+    has = has;
+    tries = more_then key v w z so.tries tries;
+    asked = posts_more key i k v w z h0 h1 h2 so.tries tries so.asked asked;
+  }
