@@ -1,0 +1,16 @@
+use Rattle.std.proofs.Common.{◌≡◌, ◌<◌, ◌≤◌}
+use Rattle.turn_table.specs.Passes.{HoldsNone, IsSeated}
+use Rattle.turn_table.specs.Turned.{table_of, key_of}
+use Rattle.share_rules.specs.Places.{shape_of}
+use Rattle.worker_turns.specs.Passes.{pass_of}
+use Rattle.worker_turns.specs.declared.worker.Turned.TheVariants.{Stopped}
+use Rattle.worker_pool.proofs.carrying.take_turns.Given as goal
+
+abbrev pub invariant-loop : goal.invariant-loop
+invariant-loop g l = record {
+  pass : IsSeated (table_of l.turns) (shape_of (key_of l.turns).value) (pass_of l.worker);
+  free : HoldsNone (pass_of l.worker);
+  up : g.G.Gate.stops l.initial.gate ≤ g.G.Gate.stops l.gate;
+  running : l.turned ≡ Stopped → ⊥;
+  next : l.next < l.timelines;
+}

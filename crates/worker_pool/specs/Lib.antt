@@ -1,0 +1,4 @@
+pub mod Lanes
+pub mod Carried
+pub mod Laid
+pub mod Ends

@@ -1,0 +1,4 @@
+pub mod Lanes
+pub mod Going
+pub mod Laws
+pub mod Beginning
