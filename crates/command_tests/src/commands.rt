@@ -5,14 +5,14 @@ use std::alloc::Global;
 use std::process::Abort;
 use std::test::Fail;
 
-const TWO: &str =
+pub(crate) const TWO: &str =
     "ring [ nodes 2 token 0 hop [ from 0 to 1 delay 5 ] hop [ from 1 to 0 delay 3 ] ]";
 
-const TRACE: &[u8] = b"E 0 0 0 0 0\nE 0 0 1 0 1\nE 5 0 2 0 1\nE 8 0 3 0 0\nend 10 4\n";
+pub(crate) const TRACE: &[u8] = b"E 0 0 0 0 0\nE 0 0 1 0 1\nE 5 0 2 0 1\nE 8 0 3 0 0\nend 10 4\n";
 
 const REPORT: &[u8] = b"events 4\nlast 8\nsent 0 0\ndropped 0 0\nudp 0 0\ntcp 0\n";
 
-const LONG_REPORT: &[u8] =
+pub(crate) const LONG_REPORT: &[u8] =
     b"events 4\nlast 8\nsent 0 0\ndropped 0 0\nudp 0 0\ntcp 0\nwindows 2 10\n";
 
 const SEQ_REPORT: &str = "seq --until 10 --report m.dml";
@@ -46,7 +46,7 @@ fn files_of(alloc: Global, model: &str) -> Result<Vec<(Text, Text)>, Fail> {
     Ok(files)
 }
 
-fn library_of(alloc: Global, model: &str) -> Result<MemoryLibrary, Fail> {
+pub(crate) fn library_of(alloc: Global, model: &str) -> Result<MemoryLibrary, Fail> {
     let files = files_of(alloc, model)?;
     Ok(MemoryLibrary::new(files, Vec::new(alloc)))
 }
@@ -247,6 +247,11 @@ fn long_files_are_refused(rt: HostRuntime) -> Result<(), Fail> {
     assert!(rt; out.bytes().is_empty());
     assert!(rt; err.bytes() == b"dml m.dml TooLong 16777216\n".as_slice());
     Ok(())
+}
+
+#[test]
+fn one_thread_refuses_a_run(rt: HostRuntime) -> Result<(), Fail> {
+    check_text(&rt, "run --until 10 m.dml", TWO, 2, b"", b"words\n")
 }
 
 #[test]

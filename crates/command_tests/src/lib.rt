@@ -1,6 +1,8 @@
-//! Tests of the commands over files and sinks that fail. They stand above `ssfnet_top`, since a crate with
+//! Tests of the commands over files and sinks that fail, and of runs by workers. They stand above `ssfnet_top`, since a crate with
 //! tests is proved twice; cases without failures stand in the folder `tools/cases`.
 #![tactic(auto)]
 
 #[cfg(test)]
 mod commands;
+#[cfg(test)]
+mod workers;

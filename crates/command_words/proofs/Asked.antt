@@ -11,10 +11,9 @@ use Rattle.command_words.specs.declared.command.Command.{Command}
 use Rattle.command_words.specs.declared.command.Command.TheVariants as commands
 use Rattle.command_words.specs.declared.name.CommandName.{CommandName}
 use Rattle.command_words.specs.declared.name.CommandName.TheVariants.{Dml, Check, Plan, Seq, Step, Run, Gen}
-use Rattle.command_words.specs.Landed.{has_landed}
 use Rattle.command_words.specs.Numbers.{is_number, value_of_digits}
 use Rattle.command_words.specs.Table.{Text, DefaultBudget, DefaultSize, DefaultThreshold, DefaultWorkers, LargestBudget, LargestSeed, LargestSize, LargestThreshold, LatestUntil, MostFiles, MostParts, MostWorkers, fits_option, is_alignment, is_one_of, is_within, row, same_text, takes_value}
-use Rattle.command_words.specs.Words.{AllFit, Asked, IsAlignInRange, IsInRange, IsLanded, align_of, align_or_net, all_landed, asked_by, asked_of_words, command_by, command_in_table, command_of_words, files_in, have_values, is_in_row, is_plain_or_landed, is_plain_word, is_value_of, is_word_of, name_of, number_or, stand_once, value_of}
+use Rattle.command_words.specs.Words.{AllFit, Asked, IsAlignInRange, IsInRange, align_of, align_or_net, asked_by, asked_of_words, command_by, command_in_table, files_in, have_values, is_in_row, is_plain_word, is_value_of, is_word_of, number_or, stand_once, value_of}
 use Rattle.command_words.specs.Parsed.{IsInTable, IsMatched}
 use Rattle.command_words.proofs.Walks.{values_after, values_here}
 use Rattle.command_words.proofs.Lookups.{value_here, value_skips}
@@ -120,12 +119,12 @@ module _ (value : Text → Option Text) (fit : AllFit value) where
 
 -- ---- what is asked
 
-pub asked_none : (words : List Text) → command_of_words words ≡ None → asked_of_words words ≡ None
+pub asked_none : (words : List Text) → command_in_table words ≡ None → asked_of_words words ≡ None
 unfolding asked_of_words
 asked_none words is = ap (option_map (λ (name : CommandName). asked_by name (drop 1 words))) is
 
 -- words with a command ask something
-pub asked_is : (words : List Text) (name : CommandName) → command_of_words words ≡ Some name → asked_of_words words ≡ None → ⊥
+pub asked_is : (words : List Text) (name : CommandName) → command_in_table words ≡ Some name → asked_of_words words ≡ None → ⊥
 unfolding asked_of_words
 asked_is words name is none = go (sym (ap (option_map (λ (n : CommandName). asked_by n (drop 1 words))) is) ∙ none)
   where
@@ -146,7 +145,7 @@ by_words f words m Run flat = λ i.
     (number_or DefaultThreshold (m.value (codes "--threshold") refl i)) (number_or DefaultWorkers (m.value (codes "--workers") refl i))
 by_words f words m Gen flat = λ i. commands.Gen (number_or 0 (m.value (codes "--seed") refl i)) (number_or DefaultSize (m.value (codes "--size") refl i))
 
-pub asked_some : (words : List Text) (name : CommandName) (f : Found) → command_of_words words ≡ Some name → IsMatched f (drop 1 words)
+pub asked_some : (words : List Text) (name : CommandName) (f : Found) → command_in_table words ≡ Some name → IsMatched f (drop 1 words)
     → (command : Command) (schedule : Option Text) (report : Bool) (files : List Text)
     → command ≡ command_by name (λ option. first_value f (drop 2 option)) (is_one_of (drop 1 words) (codes "--flat"))
     → schedule ≡ first_value f (codes "schedule") → report ≡ is_one_of (drop 1 words) (codes "--report")
@@ -160,7 +159,7 @@ asked_some words name f is m command schedule report files of_command of_schedul
     ap (option_map (λ (n : CommandName). asked_by n (drop 1 words))) is
     ∙ (λ i. Some (record { command = sym command_is i; schedule = sym schedule_is i; report = sym of_report i; files = sym files_is i }))
 
--- ---- the number of files, and what has landed
+-- ---- the number of files
 
 most_of : (name : CommandName) → (row name).most_files ≤ MostFiles
 most_of Dml = omega arith
@@ -180,34 +179,6 @@ files_few name (word ∷ words) in_it =
     let d = both (list_all (is_one_of words) (row name).must_have) _ c.1 in
     let e = both (nat_le (row name).least_files (length (files_in false words))) _ d.1 in
     omega (arith, leb-true (length (files_in false words)) (row name).most_files e.1, most_of name)
-
-landed_first : (words : List Text) (name : CommandName) → all_landed words ≡ true → IsInTable name words → has_landed (row name).name ≡ true
-unfolding all_landed
-landed_first [] name all in_it = absurd in_it
-landed_first (word ∷ words) name all in_it = ap has_landed (sym ((bytes_eq-Decides word (row name).name).0 in_it.0)) ∙ (both (has_landed word) (list_all is_plain_or_landed words) all).0
-
-pub command_landed : (words : List Text) (name : CommandName) → command_of_words words ≡ Some name → IsInTable name words → has_landed (row name).name ≡ true
-unfolding command_of_words
-command_landed words name is in_it = go (all_landed words) refl is
-  where
-    go : (b : Bool) → all_landed words ≡ b → (if b then command_in_table words else None) ≡ Some name → has_landed (row name).name ≡ true
-    go true all h = landed_first words name all in_it
-    go false all h = absurd (none_some h)
-      where
-        none_some : ◌≡◌ {A = Option CommandName} None (Some name) → ⊥
-        none_some e = cc
-
-pub by_named : (name : CommandName) (value : Text → Option Text) (flat : Bool) → name_of (command_by name value flat) ≡ name
-by_named Dml value flat = refl
-by_named Check value flat = refl
-by_named Plan value flat = refl
-by_named Seq value flat = refl
-by_named Step value flat = refl
-by_named Run value flat = refl
-by_named Gen value flat = refl
-
-pub landed_by : (name : CommandName) (value : Text → Option Text) (flat : Bool) (command : Command) → command ≡ command_by name value flat → has_landed (row name).name ≡ true → IsLanded command
-landed_by name value flat command is landed = ap (λ (c : Command). has_landed (row (name_of c)).name) is ∙ (ap (λ (n : CommandName). has_landed (row n).name) (by_named name value flat) ∙ landed)
 
 -- ---- facts of a result
 

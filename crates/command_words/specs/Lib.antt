@@ -1,4 +1,3 @@
-pub mod Landed
 pub mod Numbers
 pub mod Parsed
 pub mod Schedule

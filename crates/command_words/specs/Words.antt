@@ -8,7 +8,6 @@ use Rattle.command_words.specs.declared.command.Align.{Align}
 use Rattle.command_words.specs.declared.command.Align.TheVariants as align
 use Rattle.command_words.specs.declared.name.CommandName.{CommandName}
 use Rattle.command_words.specs.declared.name.CommandName.TheVariants.{Dml, Check, Plan, Seq, Step, Run, Gen}
-use Rattle.command_words.specs.Landed.{has_landed}
 use Rattle.command_words.specs.Numbers.{value_of_digits}
 use Rattle.command_words.specs.Table.{Text, same_text, is_one_of, Row, row, named, options_of, takes_value, fits_option, LatestUntil, LargestBudget, DefaultBudget, MostParts, LargestThreshold, DefaultThreshold, MostWorkers, DefaultWorkers, LargestSeed, LargestSize, DefaultSize}
 
@@ -72,19 +71,6 @@ unfoldable pub command_in_table : List Text → Option CommandName
 command_in_table [] = None
 command_in_table (name ∷ words) = in_row_of (named name) words
 
--- an option has landed, or the word is none
-abbrev pub is_plain_or_landed : Text → Bool
-is_plain_or_landed word = not (begins_with_dash word) || has_landed word
-
--- the command and each of the options have landed
-unfoldable pub all_landed : List Text → Bool
-all_landed [] = false
-all_landed (name ∷ words) = has_landed name && list_all is_plain_or_landed words
-
--- the command of these words, where they are in the table and the command and its options have landed
-unfoldable pub command_of_words : List Text → Option CommandName
-command_of_words words = if all_landed words then command_in_table words else None
-
 -- What words in the table ask.
 
 -- the word behind an option
@@ -138,7 +124,7 @@ asked_by name words = record {
 
 -- what these words ask of the program
 unfoldable pub asked_of_words : List Text → Option Asked
-asked_of_words words = option_map (λ name. asked_by name (drop 1 words)) (command_of_words words)
+asked_of_words words = option_map (λ name. asked_by name (drop 1 words)) (command_in_table words)
 
 -- What holds of what is asked.
 
@@ -157,20 +143,6 @@ IsInRange (command.Step until budget aligned threshold) =
 IsInRange (command.Run until budget aligned threshold workers) =
     (until ≤ LatestUntil) × (1 ≤ budget) × (budget ≤ LargestBudget) × IsAlignInRange aligned × (threshold ≤ LargestThreshold) × (1 ≤ workers) × (workers ≤ MostWorkers)
 IsInRange (command.Gen seed size) = (seed ≤ LargestSeed) × (1 ≤ size) × (size ≤ LargestSize)
-
--- the name of a command
-abbrev pub name_of : Command → CommandName
-name_of (command.Dml flat) = Dml
-name_of command.Check = Check
-name_of command.Plan = Plan
-name_of (command.Seq until budget) = Seq
-name_of (command.Step until budget aligned threshold) = Step
-name_of (command.Run until budget aligned threshold workers) = Run
-name_of (command.Gen seed size) = Gen
-
--- the command has landed
-abbrev pub IsLanded : Command → Type 0
-IsLanded c = has_landed (row (name_of c)).name ≡ true
 
 -- each value fits its option
 abbrev pub AllFit : (Text → Option Text) → Type 0

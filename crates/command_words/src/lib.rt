@@ -1,8 +1,7 @@
 //! The words of a command: which words are those of a command, and what they ask.
 //!
 //! Contracts cite `specs/Table.antt` (the table of the commands, their options and the ranges of
-//! values), `specs/Landed.antt` (what of it the program has), `specs/Words.antt` (which words are in
-//! the table, and what they ask), `specs/Schedule.antt` (how a schedule is spelt),
+//! values), `specs/Words.antt` (which words are in the table, and what they ask), `specs/Schedule.antt` (how a schedule is spelt),
 //! `specs/Numbers.antt` (numbers among the words) and `specs/Parsed.antt` (the command that `clap`
 //! parses, and what its matches have). The rule tests the words, and `clap` assigns those that it
 //! takes.

@@ -1,10 +1,9 @@
 //! The rule that tells which words are those of a command. It takes no memory.
 ghost use Rattle.std.specs.Prelude.{◌≡◌, ◌&&◌, not, false, length, map, slice_get, string_bytes, IfSome};
 ghost use Rattle.std.specs.List.{list_all};
-ghost use Rattle.command_words.specs.Landed.{has_landed};
 ghost use Rattle.command_words.specs.Parsed.{IsInTable};
 ghost use Rattle.command_words.specs.Table.{is_one_of, row, same_text, takes_value};
-ghost use Rattle.command_words.specs.Words.{all_landed, begins_with_dash, command_in_table, command_of_words, files_in, has_value, have_values, is_in_row, is_plain_or_landed, is_plain_word, is_value_of, is_word_of, stand_once};
+ghost use Rattle.command_words.specs.Words.{begins_with_dash, command_in_table, files_in, has_value, have_values, is_in_row, is_plain_word, is_value_of, is_word_of, stand_once};
 
 use crate::CommandName;
 use crate::name::named;
@@ -181,60 +180,9 @@ fn is_in_row(name: CommandName, words: &[String]) -> bool
     name.has_room(count_files(words))
 }
 
-/// Whether this command or option has landed.
-fn has_landed(word: &str) -> bool
-    ensures { result ≡ has_landed word.now }
-{
-    word == "dml"
-        || word == "check"
-        || word == "plan"
-        || word == "seq"
-        || word == "step"
-        || word == "gen"
-        || word == "--flat"
-        || word == "--until"
-        || word == "--align"
-        || word == "--threshold"
-        || word == "--budget"
-        || word == "--schedule"
-        || word == "--report"
-        || word == "--seed"
-        || word == "--size"
-}
-
-/// Whether a word is no option, or one that has landed.
-fn is_plain_or_landed(word: &str) -> bool
-    ensures { result ≡ is_plain_or_landed word.now }
-{
-    !is_dashed(word) || has_landed(word)
-}
-
-/// Whether each option among these words has landed.
-fn options_landed(words: &[String]) -> bool
-    ensures { result ≡ list_all is_plain_or_landed (map string_bytes words.now) }
-{
-    for word in words {
-        if !is_plain_or_landed(word.as_str()) {
-            return false;
-        }
-    }
-    true
-}
-
-/// Whether the command and each of the options have landed.
-#[tactic(auto, unfolding(crate::specs::Words::all_landed))]
-fn all_landed(words: &[String]) -> bool
-    ensures { result ≡ all_landed (map string_bytes words.now) }
-{
-    match words {
-        [] => false,
-        [name, others @ ..] => has_landed(name.as_str()) && options_landed(others),
-    }
-}
-
 /// The command of these words, where they are in the table.
 #[tactic(auto, unfolding(crate::specs::Words::command_in_table))]
-fn command_in_table(words: &[String]) -> Option<CommandName>
+pub(crate) fn command_of(words: &[String]) -> Option<CommandName>
     ensures command { result ≡ command_in_table (map string_bytes words.now) }
     ensures in_table { IfSome result (λ name. IsInTable name (map string_bytes words.now)) }
 {
@@ -245,17 +193,4 @@ fn command_in_table(words: &[String]) -> Option<CommandName>
             is_in_row(name, others).then_some(name)
         }
     }
-}
-
-/// The command of these words, where they are in the table and the command and its options have
-/// landed.
-#[tactic(auto, unfolding(crate::specs::Words::command_of_words))]
-pub(crate) fn command_of(words: &[String]) -> Option<CommandName>
-    ensures command { result ≡ command_of_words (map string_bytes words.now) }
-    ensures in_table { IfSome result (λ name. IsInTable name (map string_bytes words.now)) }
-{
-    if !all_landed(words) {
-        return None;
-    }
-    command_in_table(words)
 }

@@ -4,7 +4,7 @@ ghost use Rattle.clap.specs.Words.{first_value, found_of, matched_of, one_text, 
 ghost use Rattle.command_words.specs.Parsed.{flag_text};
 ghost use Rattle.command_words.specs.Schedule.{is_schedule};
 ghost use Rattle.command_words.specs.Table.{MostFiles};
-ghost use Rattle.command_words.specs.Words.{AllFit, IsInRange, IsLanded, asked_of_words, command_by};
+ghost use Rattle.command_words.specs.Words.{AllFit, IsInRange, asked_of_words, command_by};
 
 use crate::clap_words::matches_of;
 use crate::options::{command_by, files_in, schedule_in};
@@ -51,13 +51,12 @@ fn request_of(alloc: Global, name: CommandName, matches: &ArgMatches) -> Result<
 /// Reads the words after the program's name.
 ///
 /// # Errors
-/// `Words` exactly where they are no words of a command that has landed, and `Memory`.
+/// `Words` exactly where they are not in the table, and `Memory`.
 pub fn read_words(alloc: Global, words: &[String]) -> Result<Request, WordsFault>
     ensures ok { IfOk result (λ r. asked_of_words (map string_bytes words.now) ≡ Some (record { command = r.command; schedule = option_map string_bytes r.schedule; report = r.report; files = map string_bytes r.files.items })) }
     ensures words { IsErrOf result WordsFault.Words → asked_of_words (map string_bytes words.now) ≡ None }
     ensures refused { asked_of_words (map string_bytes words.now) ≡ None → IsErrAnd result (λ fault. fault ≡ WordsFault.Words) }
     ensures range { IfOk result (λ r. IsInRange r.command) }
-    ensures landed { IfOk result (λ r. IsLanded r.command) }
     ensures scheduled { IfOk result (λ r. (word : List ℕ) → option_map string_bytes r.schedule ≡ Some word → is_schedule word ≡ true) }
     ensures files { IfOk result (λ r. vec_len r.files ≤ MostFiles) }
 {

@@ -1,5 +1,5 @@
 -- What a command did, by its request.
-use Rattle.std.proofs.Common.{ℕ, ◌≡◌, ◌⊎◌, inl, inr, ◌++◌, ◌∙◌, ap, sym, subst, List, [], map, String, string_bytes, Bool, true, false, Option, Some, Result, Ok, Err, IfErr}
+use Rattle.std.proofs.Common.{ℕ, ◌≡◌, ◌<◌, ◌≤◌, arith, ◌⊎◌, inl, inr, ◌++◌, ◌∙◌, ap, sym, subst, List, [], map, String, string_bytes, Bool, true, false, Option, Some, Result, Ok, Err, IfErr}
 use Rattle.sim_base.specs.Outside.{Appends}
 use Rattle.alignment.specs.declared.labels.Mode.{Mode}
 use Rattle.command_words.specs.Words.{Asked}
@@ -25,7 +25,7 @@ use Rattle.ssfnet_top.specs.declared.refusal.Refusal.TheVariants as refusal
 use Rattle.ssfnet_top.specs.declared.running.Told.{Told}
 use Rattle.ssfnet_top.specs.Outcome.{asked_of, planned_network, by_list, on_timelines, IsNetworkRun, IsRingRun, IsRunIn, IsModelRun, IsCommandDue, IsCommandMidway}
 use Rattle.ssfnet_top.specs.Outcome.Course.{Ended, Midway}
-use Rattle.ssfnet_top.specs.Answering.{Answers, AnswersMidway, IsOfCommand, IsOfModel, IsOfRun, IsOnTimelines, IsUntold, told_text, windows_text}
+use Rattle.ssfnet_top.specs.Answering.{Answers, AnswersMidway, IsOfCommand, IsOfModel, IsOfRun, IsOfSteps, IsOnTimelines, IsStop, IsUntold, told_text, windows_text}
 use Rattle.ssfnet_top.specs.Ending.{HasMiddle, MayEndMidway}
 
 pub untold_text : (told : Told) → IsUntold told → told_text told ≡ []
@@ -72,6 +72,8 @@ of_list until budget wanted names (refusal.TimelineBudget timeline most below) (
 of_list until budget wanted names (refusal.TimelineBudget timeline most below) (inr h) = h
 of_list until budget wanted names (refusal.MemoryBelow below) (inl h) = h
 of_list until budget wanted names (refusal.MemoryBelow below) (inr h) = h
+of_list until budget wanted names (refusal.Stopped worker below) (inl h) = h
+of_list until budget wanted names (refusal.Stopped worker below) (inr h) = h
 
 of_steps : (until budget : ℕ) (wanted : Bool) (aligned : Align) (threshold : ℕ) (names : List (List ℕ)) (r : Refusal) → IsOfModel names r ⊎ IsOfRun (on_timelines until budget wanted aligned threshold) r
     → IsOfCommand (commands.Step until budget aligned threshold) names r
@@ -93,6 +95,41 @@ of_steps until budget wanted aligned threshold names (refusal.TimelineBudget tim
 of_steps until budget wanted aligned threshold names (refusal.TimelineBudget timeline most below) (inr h) = h
 of_steps until budget wanted aligned threshold names (refusal.MemoryBelow below) (inl h) = absurd h
 of_steps until budget wanted aligned threshold names (refusal.MemoryBelow below) (inr h) = tt
+of_steps until budget wanted aligned threshold names (refusal.Stopped worker below) (inl h) = h
+of_steps until budget wanted aligned threshold names (refusal.Stopped worker below) (inr h) = h
+
+of_workers : (until budget : ℕ) (aligned : Align) (threshold workers lanes : ℕ) (names : List (List ℕ)) → lanes ≤ workers → (r : Refusal) → IsOfModel names r ⊎ (IsOfSteps budget r ⊎ IsStop lanes r)
+    → IsOfCommand (commands.Run until budget aligned threshold workers) names r
+of_workers until budget aligned threshold workers lanes names few r (inl h) = of_model_there r h
+  where
+    of_model_there : (x : Refusal) → IsOfModel names x → IsOfCommand (commands.Run until budget aligned threshold workers) names x
+    of_model_there refusal.Memory h = tt
+    of_model_there refusal.Words h = h
+    of_model_there (refusal.Read file) h = h
+    of_model_there (refusal.Dml file fault) h = h
+    of_model_there (refusal.Path file fault) h = (tt, h)
+    of_model_there (refusal.Shape fault) h = (tt, h)
+    of_model_there refusal.Write h = tt
+    of_model_there (refusal.Budget most) h = h
+    of_model_there (refusal.TimelineBudget timeline most below) h = absurd h
+    of_model_there (refusal.MemoryBelow below) h = absurd h
+    of_model_there (refusal.Stopped worker below) h = absurd h
+of_workers until budget aligned threshold workers lanes names few r (inr (inl h)) = of_steps_there r h
+  where
+    of_steps_there : (x : Refusal) → IsOfSteps budget x → IsOfCommand (commands.Run until budget aligned threshold workers) names x
+    of_steps_there refusal.Memory h = tt
+    of_steps_there refusal.Words h = h
+    of_steps_there (refusal.Read file) h = h
+    of_steps_there (refusal.Dml file fault) h = h
+    of_steps_there (refusal.Path file fault) h = absurd h
+    of_steps_there (refusal.Shape fault) h = (tt, h)
+    of_steps_there refusal.Write h = tt
+    of_steps_there (refusal.Budget most) h = h
+    of_steps_there (refusal.TimelineBudget timeline most below) h = h
+    of_steps_there (refusal.MemoryBelow below) h = tt
+    of_steps_there (refusal.Stopped worker below) h = absurd h
+of_workers until budget aligned threshold workers lanes names few r (inr (inr (worker, below, is, low))) =
+    subst (λ (x : Refusal). IsOfCommand (commands.Run until budget aligned threshold workers) names x) (sym is) (let there : worker < workers = omega (arith, low, few) in there)
 
 -- `names` are those of the request's files, and `here` is its command
 module _ (request : Request) (here : Command) (names : List (String Global)) (is : request.command ≡ here) (same : names ≡ request.files.items)
@@ -153,3 +190,9 @@ pub asked_unbegun : (answer : Result (Unit {0}) Refusal) (asked : Option Asked) 
     → IfErr answer (λ r. r ≡ refusal.Memory → HasMiddle a.command → Appends [] held held')
     → IfErr answer (λ r. r ≡ refusal.Memory → MayEndMidway asked → Appends [] held held')
 asked_unbegun answer asked a held held' is none = if_err_each answer _ _ (λ r given short middle. given short (let there : MayEndMidway (Some a) = subst MayEndMidway is middle in there)) none
+
+-- the same of a run by workers
+pub worked_cause : (until budget : ℕ) (aligned : Align) (threshold workers lanes : ℕ) (names : List (List ℕ)) (answer : Result (Unit {0}) Refusal) → lanes ≤ workers
+    → IfErr answer (λ r. IsOfModel names r ⊎ (IsOfSteps budget r ⊎ IsStop lanes r))
+    → IfErr answer (λ r. IsOfCommand (commands.Run until budget aligned threshold workers) names r)
+worked_cause until budget aligned threshold workers lanes names answer few cause = if_err_each answer _ _ (of_workers until budget aligned threshold workers lanes names few) cause

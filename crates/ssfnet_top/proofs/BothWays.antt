@@ -1,4 +1,4 @@
--- A model's run by one event list and its run on timelines, where both come to their end, write the same.
+-- A model's run by one event list and its run on timelines, where both come to their end, write the same; and steps and workers have the same outcome.
 use Rattle.std.proofs.Common.{ℕ, ◌≡◌, ◌≤◌, ◌+◌, ◌⊎◌, inl, inr, ◌∙◌, sym, ap, subst, refl, Bool, true, false, List, [], length, Option, Some, Result, Ok, Err, arith}
 use Rattle.sim_base.specs.Outside.{Files}
 use Rattle.dml_tree.specs.declared.tree.Attribute.{Attribute}
@@ -120,3 +120,21 @@ module _ (one two : Asked) (until budget most threshold : ℕ) (aligned : Align)
       → due.out ≡ other.out
   outcomes_same files words others first second p q =
       asked_same files (subst (λ (o : Option Asked). IsAskedDue files o due) first p) (subst (λ (o : Option Asked). IsAskedDue files o other) second q)
+
+-- What is due of `run` is what is due of `step`.
+module _ (one two : Asked) (until budget threshold workers : ℕ) (aligned : Align) (by_steps : one.command ≡ commands.Step until budget aligned threshold)
+    (by_workers : two.command ≡ commands.Run until budget aligned threshold workers) (same : one.files ≡ two.files) (reports : one.report ≡ two.report) (due : Due) where
+  trees_due : (tree : Result Attributes Refusal) → IsTreeDue one tree due → IsTreeDue two tree due
+  trees_due (Ok tree) p =
+      let P : Command → Type 0 = λ c. IsCommandDue c one tree due in
+      let Q : Command → Type 0 = λ c. IsCommandDue c two tree due in
+      let F : List (List ℕ) → Type 0 = λ names. IsModelRun (on_timelines until budget one.report aligned threshold) (resolved_of names tree) (Ended due) in
+      let R : Bool → Type 0 = λ wanted. IsModelRun (on_timelines until budget wanted aligned threshold) (resolved_of two.files tree) (Ended due) in
+      subst Q (sym by_workers) (subst R reports (subst F same (subst P by_steps p)))
+  trees_due (Err r) p = p
+
+  pub steps_and_workers : (files : Files) (words others : List (List ℕ)) → asked_of_words words ≡ Some one → asked_of_words others ≡ Some two → IsOutcome files words due → IsOutcome files others due
+  steps_and_workers files words others first second p =
+      let here : IsAskedDue files (Some one) due = subst (λ (o : Option Asked). IsAskedDue files o due) first p in
+      let there : IsAskedDue files (Some two) due = (here.0, subst (λ (l : List (List ℕ)). AreRead files 0 l here.0) same here.1, trees_due here.0 here.2) in
+      subst (λ (o : Option Asked). IsAskedDue files o due) (sym second) there

@@ -1,5 +1,13 @@
 -- From the run of a plan to the course of its model.
-use Rattle.std.proofs.Common.{ℕ, ◌≡◌, ◌++◌, sym, subst, Bool, List, [], append-nil, ◌⊎◌, inl, inr, Option, None, Result, Ok, Err, IfErr}
+use Rattle.ssfnet_top.specs.declared.model.Planned.{Planned}
+use Rattle.ssfnet_top.specs.declared.model.Planned.TheVariants as planned
+use Rattle.ssfnet_top.specs.Planning.{IsPlanned, IsPlannedIn, IsFault, IsFaultIn}
+use Rattle.ssfnet_top.proofs.Endings.{appends_nothing}
+use Rattle.dml_tree.specs.TreeView.{attributes}
+use Rattle.net_graph.specs.Keys.{has_net}
+use Rattle.net_graph.specs.declared.fault.ShapeFault.{ShapeFault}
+use Rattle.net_build.specs.RingModel.{ring_plan_of}
+use Rattle.std.proofs.Common.{ℕ, ◌≡◌, ◌++◌, sym, ap, refl, subst, Bool, true, false, List, [], append-nil, ◌⊎◌, inl, inr, Option, None, Result, Ok, Err, IfErr}
 use Rattle.sim_base.specs.Outside.{Appends}
 use Rattle.dml_tree.specs.declared.tree.Attribute.{Attribute}
 use Rattle.dml_tree.specs.Attributes.{Attributes}
@@ -23,7 +31,7 @@ use Rattle.ring_model.specs.Reacting.{ring_reaction}
 use Rattle.ssfnet_top.specs.declared.refusal.Refusal.{Refusal}
 use Rattle.ssfnet_top.specs.declared.refusal.Refusal.TheVariants as refusal
 use Rattle.ssfnet_top.specs.declared.running.Running.{Running}
-use Rattle.ssfnet_top.specs.Outcome.{Due, Course, IsRunDue, IsCourseBy, IsCourse, IsRingRun, IsNetworkRun, IsRunIn, IsModelRun}
+use Rattle.ssfnet_top.specs.Outcome.{Due, refused, planned_network, Course, IsRunDue, IsCourseBy, IsCourse, IsRingRun, IsNetworkRun, IsRunIn, IsModelRun}
 use Rattle.ssfnet_top.specs.Outcome.Course.{Ended, Midway}
 use Rattle.ssfnet_top.specs.Answering.{Answers, AnswersMidway, IsOnTimelines, windows_text}
 
@@ -74,19 +82,59 @@ module _ {B S P : Type 0} (r : Reaction S P) (built : Built B S P) (running : Ru
   pub on_its_timelines : (report : List ℕ) (mode : Mode) (threshold : ℕ) → running.way ≡ way.Timelines mode threshold → Goes (way.Timelines mode threshold) report → Goes running.way report
   on_its_timelines report mode threshold is goes = subst (λ (w : Way). Goes w report) (sym is) goes
 
--- a model is a Net, or not
-pub run_of_tree : (running : Running) (net other : Bool) (root : List Attribute) (report : List ℕ) (answer : Result (Unit {0}) Refusal) (faults faults' : ℕ) (held held' : Option (List ℕ)) → net ≡ other
-    → Answers (λ due. IsRunIn running net root (Ended due)) report answer faults faults' held held' ⊎ AnswersMidway (λ below text. IsRunIn running net root (Midway below text)) answer faults faults' held held'
-    → Answers (λ due. IsRunIn running other root (Ended due)) report answer faults faults' held held' ⊎ AnswersMidway (λ below text. IsRunIn running other root (Midway below text)) answer faults faults' held held'
-run_of_tree running net other root report answer faults faults' held held' same goes =
-    subst (λ (b : Bool). Answers (λ due. IsRunIn running b root (Ended due)) report answer faults faults' held held' ⊎ AnswersMidway (λ below text. IsRunIn running b root (Midway below text)) answer faults faults' held held') same goes
+-- the run of the plan of a model is that of the model
+hosts_in : (running : Running) (net : Bool) (root : List Attribute) (built : Built Host HostFields PacketFields) → IsPlannedIn net root (planned.Hosts built)
+    → (course : Course) → IsCourse host_reaction built running course → IsRunIn running net root course
+hosts_in running true root built plan course run = network_run running (planned_network root) built plan course run
+hosts_in running false root built plan course run = absurd plan
 
--- the resolved tree of a model
-pub run_of_model : (running : Running) (tree other : Result Attributes Refusal) (report : List ℕ) (answer : Result (Unit {0}) Refusal) (faults faults' : ℕ) (held held' : Option (List ℕ)) → tree ≡ other
-    → Answers (λ due. IsModelRun running tree (Ended due)) report answer faults faults' held held' ⊎ AnswersMidway (λ below text. IsModelRun running tree (Midway below text)) answer faults faults' held held'
-    → Answers (λ due. IsModelRun running other (Ended due)) report answer faults faults' held held' ⊎ AnswersMidway (λ below text. IsModelRun running other (Midway below text)) answer faults faults' held held'
-run_of_model running tree other report answer faults faults' held held' same goes =
-    subst (λ (t : Result Attributes Refusal). Answers (λ due. IsModelRun running t (Ended due)) report answer faults faults' held held' ⊎ AnswersMidway (λ below text. IsModelRun running t (Midway below text)) answer faults faults' held held') same goes
+ring_in : (running : Running) (net : Bool) (root : List Attribute) (built : Built Ring RingState RingPayload) → IsPlannedIn net root (planned.Ring built)
+    → (course : Course) → IsCourse ring_reaction built running course → IsRunIn running net root course
+ring_in running true root built plan course run = absurd plan
+ring_in running false root built plan course run = ring_run running (ring_plan_of root) built plan course run
+
+hosts_of : (running : Running) (tree : Result Attributes Refusal) (built : Built Host HostFields PacketFields) → IsPlanned tree (planned.Hosts built)
+    → (course : Course) → IsCourse host_reaction built running course → IsModelRun running tree course
+hosts_of running (Ok tree) built plan course run = hosts_in running (has_net (attributes tree)) (attributes tree) built plan course run
+hosts_of running (Err r) built plan course run = absurd plan
+
+ring_of : (running : Running) (tree : Result Attributes Refusal) (built : Built Ring RingState RingPayload) → IsPlanned tree (planned.Ring built)
+    → (course : Course) → IsCourse ring_reaction built running course → IsModelRun running tree course
+ring_of running (Ok tree) built plan course run = ring_in running (has_net (attributes tree)) (attributes tree) built plan course run
+ring_of running (Err r) built plan course run = absurd plan
+
+module _ (running : Running) (tree : Result Attributes Refusal) (report : List ℕ) (answer : Result (Unit {0}) Refusal) (faults faults' : ℕ) (held held' : Option (List ℕ)) where
+  abbrev pub Runs : Type 0
+  Runs =
+      Answers (λ due. IsModelRun running tree (Ended due)) report answer faults faults' held held'
+      ⊎ AnswersMidway (λ below text. IsModelRun running tree (Midway below text)) answer faults faults' held held'
+
+  pub runs_hosts : (p : Planned) (built : Built Host HostFields PacketFields) → p ≡ planned.Hosts built → IsPlanned tree p
+      → Answers (λ due. IsCourse host_reaction built running (Ended due)) report answer faults faults' held held'
+      ⊎ AnswersMidway (λ below text. IsCourse host_reaction built running (Midway below text)) answer faults faults' held held' → Runs
+  runs_hosts p built is plan goes =
+      course_by (IsCourse host_reaction built running) (IsModelRun running tree) (hosts_of running tree built (subst (λ (x : Planned). IsPlanned tree x) is plan)) report answer faults faults' held held' goes
+
+  pub runs_ring : (p : Planned) (built : Built Ring RingState RingPayload) → p ≡ planned.Ring built → IsPlanned tree p
+      → Answers (λ due. IsCourse ring_reaction built running (Ended due)) report answer faults faults' held held'
+      ⊎ AnswersMidway (λ below text. IsCourse ring_reaction built running (Midway below text)) answer faults faults' held held' → Runs
+  runs_ring p built is plan goes =
+      course_by (IsCourse ring_reaction built running) (IsModelRun running tree) (ring_of running tree built (subst (λ (x : Planned). IsPlanned tree x) is plan)) report answer faults faults' held held' goes
+
+-- and the refusal of a model without a plan is due
+fault_in : (running : Running) (net : Bool) (root : List Attribute) (fault : ShapeFault) → IsFaultIn net root fault → IsRunIn running net root (Ended (refused (refusal.Shape fault) []))
+fault_in running true root fault is = subst (λ (n : Read Network). IsNetworkRun running n (Ended (refused (refusal.Shape fault) []))) (sym is) refl
+fault_in running false root fault is = subst (λ (n : Read (Built Ring RingState RingPayload)). IsRingRun running n (Ended (refused (refusal.Shape fault) []))) (sym is) refl
+
+fault_of : (running : Running) (tree : Result Attributes Refusal) (r : Refusal) → IsFault tree r → IsModelRun running tree (Ended (refused r []))
+fault_of running (Ok tree) r (fault, is, same) =
+    subst (λ (s : Refusal). IsModelRun running (Ok tree) (Ended (refused s []))) (sym same) (fault_in running (has_net (attributes tree)) (attributes tree) fault is)
+fault_of running (Err e) r same = ap (λ (s : Refusal). refused s []) same
+
+pub runs_none : (running : Running) (tree : Result Attributes Refusal) (report : List ℕ) (r : Refusal) (faults : ℕ) (held : Option (List ℕ)) → (r ≡ refusal.Memory) ⊎ IsFault tree r
+    → Runs running tree report (Err r) faults faults held held
+runs_none running tree report r faults held (inl short) = inl (inr (inr (ap (λ (s : Refusal). Err s) short, appends_nothing held)))
+runs_none running tree report r faults held (inr fault) = inl (inl ([], fault_of running tree r fault, appends_nothing held))
 
 -- where nothing was written for want of memory: a run by one event list says nothing of it
 pub unbegun_by_list : (answer : Result (Unit {0}) Refusal) (by : Way) (held held' : Option (List ℕ)) → by ≡ way.OneList

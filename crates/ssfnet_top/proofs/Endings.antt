@@ -7,8 +7,8 @@ use Rattle.command_words.specs.declared.command.Command.TheVariants as commands
 use Rattle.ssfnet_top.specs.declared.refusal.Refusal.{Refusal}
 use Rattle.ssfnet_top.specs.declared.refusal.Refusal.TheVariants as refusal
 use Rattle.ssfnet_top.specs.Refusals.{status_of, line_of}
-use Rattle.command_words.specs.Words.{Asked, asked_of_words}
-use Rattle.ssfnet_top.specs.Outcome.{Due, done, done_with, refused, refusal_line, AreRead, IsText, IsTreeDue, IsAskedDue, IsOutcome, IsTreeMidway, IsAskedMidway, IsMidway}
+use Rattle.command_words.specs.Words.{Asked}
+use Rattle.ssfnet_top.specs.Outcome.{Due, done, done_with, refused, refusal_line, AreRead, IsText, IsTreeDue, IsAskedDue, IsTreeMidway, IsAskedMidway}
 use Rattle.ssfnet_top.specs.Answering.{IsMade, AnswersMidway, IsReportTold, due_of, IsHalt, Answers, IsReadFault, IsTold}
 use Rattle.ssfnet_top.specs.Ending.{Outside, HasBudget, HasMiddle, MayEndMidway, IsReport, IsLongReport, Tells, IsToldOf, WantsReport, HasTold, IsReportCut, IsStopped, IsReached, IsFileReached, Ends, IsLineCut, Concerns}
 use Rattle.std.proofs.lemmas.Grind.{common_steps}
@@ -42,7 +42,7 @@ told_nothing commands.Check wanted text is lacks = is
 told_nothing commands.Plan wanted text is lacks = is
 told_nothing (commands.Seq until budget) wanted text is lacks = empty_where wanted text is lacks
 told_nothing (commands.Step until budget aligned threshold) wanted text is lacks = empty_long wanted text is lacks
-told_nothing (commands.Run until budget aligned threshold workers) wanted text is lacks = absurd is
+told_nothing (commands.Run until budget aligned threshold workers) wanted text is lacks = empty_long wanted text is lacks
 told_nothing (commands.Gen seed size) wanted text is lacks = is
 
 unwanted : (asked : Option Asked) (text : List ℕ) → IsToldOf asked text → ¬ WantsReport asked → text ≡ []
@@ -135,6 +135,7 @@ module _ (before after : Outside) where
   made_leaves asked (refusal.Budget budget) made c leaves middle = absurd (no_list_budget asked budget c middle)
   made_leaves asked (refusal.TimelineBudget timeline budget below) made c leaves middle = absurd made
   made_leaves asked (refusal.MemoryBelow below) made c leaves middle = absurd made
+  made_leaves asked (refusal.Stopped worker below) made c leaves middle = absurd made
 
   halt_leaves : (asked : Option Asked) (r : Refusal) (status : ℕ) → IsHalt (Err r) before.out_faults after.out_faults → LeavesNothing asked r
       → IsTold r status before.err_faults after.err_faults before.err after.err → status ≡ 1 → MayEndMidway asked → Appends [] before.out after.out
@@ -144,98 +145,112 @@ module _ (before after : Outside) where
       let P : Refusal → Type 0 = λ s. IsTold s status before.err_faults after.err_faults before.err after.err in
       absurd (write_seven status before.err_faults after.err_faults before.err after.err (subst P same told) one)
 
-  module _ (files : Files) (words : List (List ℕ)) where
-    whole_ends : (r : Refusal) (status : ℕ) (text : List ℕ) → IsOutcome files words (refused r text) → Appends text before.out after.out → Concerns (asked_of_words words) r
-        → LeavesNothing (asked_of_words words) r → IsTold r status before.err_faults after.err_faults before.err after.err → Ends files words status before after
+  module _ (files : Files) (asked : Option Asked) where
+    whole_ends : (r : Refusal) (status : ℕ) (text : List ℕ) → IsAskedDue files asked (refused r text) → Appends text before.out after.out → Concerns asked r
+        → LeavesNothing asked r → IsTold r status before.err_faults after.err_faults before.err after.err → Ends files asked status before after
     whole_ends r status text outcome all c leaves (inl told) = inl (refused r text, outcome, inl (record { status_is = told.0; out = all; err = told.1 }))
     whole_ends r status text outcome all c leaves (inr (inl told)) =
-        inl (refused r text, outcome, inr (inl (record { stopped = inl (told.0, told.2); out = part_all text before.out after.out all; unbegun = λ one. made_leaves (asked_of_words words) r told.1 c leaves })))
+        inl (refused r text, outcome, inr (inl (record { stopped = inl (told.0, told.2); out = part_all text before.out after.out all; unbegun = λ one. made_leaves asked r told.1 c leaves })))
     whole_ends r status text outcome all c leaves (inr (inr failed)) =
-        let cut = cut_line (asked_of_words words) r before.err_faults after.err_faults before.err after.err c failed.1 failed.2 in
+        let cut = cut_line asked r before.err_faults after.err_faults before.err after.err c failed.1 failed.2 in
         inl (refused r text, outcome, inr (inl (record { stopped = inr (failed.0, inr cut); out = part_all text before.out after.out all; unbegun = λ one middle. absurd (let seven = failed.0 in omega (arith, one, seven)) })))
 
-    unread_ends : (name : List ℕ) (status : ℕ) → IsFileReached files (asked_of_words words) name → Rose before.read_faults after.read_faults → Appends [] before.out after.out
-        → Concerns (asked_of_words words) (refusal.Read name)
-        → IsTold (refusal.Read name) status before.err_faults after.err_faults before.err after.err → Ends files words status before after
+    unread_ends : (name : List ℕ) (status : ℕ) → IsFileReached files asked name → Rose before.read_faults after.read_faults → Appends [] before.out after.out
+        → Concerns asked (refusal.Read name)
+        → IsTold (refusal.Read name) status before.err_faults after.err_faults before.err after.err → Ends files asked status before after
     unread_ends name status file rose none c (inl told) =
         inr (inl (record { cause = inr (record { status_is = told.0; rose = rose; name = name; file = file; err = told.1 }); out = none }))
     unread_ends name status file rose none c (inr (inl told)) = inr (inl (record { cause = inl (inl (told.0, told.2)); out = none }))
     unread_ends name status file rose none c (inr (inr failed)) =
-        let cut = cut_line (asked_of_words words) (refusal.Read name) before.err_faults after.err_faults before.err after.err c failed.1 failed.2 in
+        let cut = cut_line asked (refusal.Read name) before.err_faults after.err_faults before.err after.err c failed.1 failed.2 in
         inr (inl (record { cause = inl (inr (failed.0, inr cut)); out = none }))
 
     -- it was ended in the middle of a run
-    short_ends : (below status : ℕ) (text : List ℕ) → IsMidway files words below text → Appends text before.out after.out → Concerns (asked_of_words words) (refusal.MemoryBelow below)
-        → IsTold (refusal.MemoryBelow below) status before.err_faults after.err_faults before.err after.err → Ends files words status before after
+    short_ends : (below status : ℕ) (text : List ℕ) → IsAskedMidway files asked below text → Appends text before.out after.out → Concerns asked (refusal.MemoryBelow below)
+        → IsTold (refusal.MemoryBelow below) status before.err_faults after.err_faults before.err after.err → Ends files asked status before after
     short_ends below status text midway all c (inl told) = inr (inr (record { below = below; text = text; midway = midway; ended = inl (told.0, all, told.1) }))
     short_ends below status text midway all c (inr (inl told)) = absurd told.1
     short_ends below status text midway all c (inr (inr failed)) =
-        let cut = cut_line (asked_of_words words) (refusal.MemoryBelow below) before.err_faults after.err_faults before.err after.err c failed.1 failed.2 in
-        inr (inr (record { below = below; text = text; midway = midway; ended = inr (failed.0, part_all text before.out after.out all, inr cut) }))
+        let cut = cut_line asked (refusal.MemoryBelow below) before.err_faults after.err_faults before.err after.err c failed.1 failed.2 in
+        inr (inr (record { below = below; text = text; midway = midway; ended = inr (inr (failed.0, part_all text before.out after.out all, inr cut)) }))
 
-    failed_ends : (below status : ℕ) (text : List ℕ) → IsMidway files words below text → Rose before.out_faults after.out_faults → AppendsPrefix text before.out after.out
-        → Concerns (asked_of_words words) refusal.Write
-        → IsTold refusal.Write status before.err_faults after.err_faults before.err after.err → Ends files words status before after
-    failed_ends below status text midway rose part c (inl told) = inr (inr (record { below = below; text = text; midway = midway; ended = inr (told.0, part, inl (rose, told.1)) }))
+    -- a worker was stopped
+    stop_ends : (worker below status : ℕ) (text : List ℕ) → IsAskedMidway files asked below text → Appends text before.out after.out → Concerns asked (refusal.Stopped worker below)
+        → IsTold (refusal.Stopped worker below) status before.err_faults after.err_faults before.err after.err → Ends files asked status before after
+    stop_ends worker below status text midway all c (inl told) = inr (inr (record { below = below; text = text; midway = midway; ended = inr (inl (worker, c, told.0, all, told.1)) }))
+    stop_ends worker below status text midway all c (inr (inl told)) = absurd told.1
+    stop_ends worker below status text midway all c (inr (inr failed)) =
+        let cut = cut_line asked (refusal.Stopped worker below) before.err_faults after.err_faults before.err after.err c failed.1 failed.2 in
+        inr (inr (record { below = below; text = text; midway = midway; ended = inr (inr (failed.0, part_all text before.out after.out all, inr cut)) }))
+
+    failed_ends : (below status : ℕ) (text : List ℕ) → IsAskedMidway files asked below text → Rose before.out_faults after.out_faults → AppendsPrefix text before.out after.out
+        → Concerns asked refusal.Write
+        → IsTold refusal.Write status before.err_faults after.err_faults before.err after.err → Ends files asked status before after
+    failed_ends below status text midway rose part c (inl told) = inr (inr (record { below = below; text = text; midway = midway; ended = inr (inr (told.0, part, inl (rose, told.1))) }))
     failed_ends below status text midway rose part c (inr (inl told)) = absurd told.1
     failed_ends below status text midway rose part c (inr (inr failed)) =
-        let cut = cut_line (asked_of_words words) refusal.Write before.err_faults after.err_faults before.err after.err c failed.1 failed.2 in
-        inr (inr (record { below = below; text = text; midway = midway; ended = inr (failed.0, part, inr cut) }))
+        let cut = cut_line asked refusal.Write before.err_faults after.err_faults before.err after.err c failed.1 failed.2 in
+        inr (inr (record { below = below; text = text; midway = midway; ended = inr (inr (failed.0, part, inr cut)) }))
 
-    midway_ends : (r : Refusal) (status : ℕ) → AnswersMidway (IsMidway files words) (Err r) before.out_faults after.out_faults before.out after.out → Concerns (asked_of_words words) r
-        → IsTold r status before.err_faults after.err_faults before.err after.err → Ends files words status before after
-    midway_ends r status (below, text, midway, inl (is, all)) c told =
+    midway_ends : (r : Refusal) (status : ℕ) → AnswersMidway (IsAskedMidway files asked) (Err r) before.out_faults after.out_faults before.out after.out → Concerns asked r
+        → IsTold r status before.err_faults after.err_faults before.err after.err → Ends files asked status before after
+    midway_ends r status (below, text, midway, inl (inl is, all)) c told =
         let same : r ≡ refusal.MemoryBelow below = cc in
         let P : Refusal → Type 0 = λ s. IsTold s status before.err_faults after.err_faults before.err after.err in
-        short_ends below status text midway all (subst (λ (s : Refusal). Concerns (asked_of_words words) s) same c) (subst P same told)
+        short_ends below status text midway all (subst (λ (s : Refusal). Concerns asked s) same c) (subst P same told)
+    midway_ends r status (below, text, midway, inl (inr (worker, is), all)) c told =
+        let same : r ≡ refusal.Stopped worker below = cc in
+        let P : Refusal → Type 0 = λ s. IsTold s status before.err_faults after.err_faults before.err after.err in
+        stop_ends worker below status text midway all (subst (λ (s : Refusal). Concerns asked s) same c) (subst P same told)
     midway_ends r status (below, text, midway, inr (is, rose, part)) c told =
         let same : r ≡ refusal.Write = cc in
         let P : Refusal → Type 0 = λ s. IsTold s status before.err_faults after.err_faults before.err after.err in
-        failed_ends below status text midway rose part (subst (λ (s : Refusal). Concerns (asked_of_words words) s) same c) (subst P same told)
+        failed_ends below status text midway rose part (subst (λ (s : Refusal). Concerns asked s) same c) (subst P same told)
 
     -- it was refused, and the line told
     pub ends_refused : (report : List ℕ) (r : Refusal) (status : ℕ)
-        → Answers (IsOutcome files words) report (Err r) before.out_faults after.out_faults before.out after.out
-        ⊎ (IsReadFault files (asked_of_words words) (Err r) before.read_faults after.read_faults before.out after.out
-        ⊎ AnswersMidway (IsMidway files words) (Err r) before.out_faults after.out_faults before.out after.out)
-        → Concerns (asked_of_words words) r → LeavesNothing (asked_of_words words) r
+        → Answers (IsAskedDue files asked) report (Err r) before.out_faults after.out_faults before.out after.out
+        ⊎ (IsReadFault files asked (Err r) before.read_faults after.read_faults before.out after.out
+        ⊎ AnswersMidway (IsAskedMidway files asked) (Err r) before.out_faults after.out_faults before.out after.out)
+        → Concerns asked r → LeavesNothing asked r
         → IsTold r status before.err_faults after.err_faults before.err after.err
-        → Ends files words status before after
+        → Ends files asked status before after
     ends_refused report r status (inl (inl all)) c leaves told = whole_ends r status all.0 all.1 all.2 c leaves told
     ends_refused report r status (inl (inr (inl (due, outcome, halt, part)))) c leaves told =
-        inl (due, outcome, inr (inl (record { stopped = halt_stops (asked_of_words words) r status halt c told; out = part; unbegun = halt_leaves (asked_of_words words) r status halt leaves told })))
+        inl (due, outcome, inr (inl (record { stopped = halt_stops asked r status halt c told; out = part; unbegun = halt_leaves asked r status halt leaves told })))
     ends_refused report r status (inl (inr (inr (is, none)))) c leaves told =
         let halt : IsHalt (Err r) before.out_faults after.out_faults = inl is in
-        inr (inl (record { cause = inl (halt_stops (asked_of_words words) r status halt c told); out = none }))
+        inr (inl (record { cause = inl (halt_stops asked r status halt c told); out = none }))
     ends_refused report r status (inr (inr short)) c leaves told = midway_ends r status short c told
     ends_refused report r status (inr (inl (name, file, is, rose, none))) c leaves told =
         let same : r ≡ refusal.Read name = cc in
         let P : Refusal → Type 0 = λ s. IsTold s status before.err_faults after.err_faults before.err after.err in
-        unread_ends name status file rose none (subst (λ (s : Refusal). Concerns (asked_of_words words) s) same c) (subst P same told)
+        unread_ends name status file rose none (subst (λ (s : Refusal). Concerns asked s) same c) (subst P same told)
 
     -- it ended well, and the report was told, or cut short
-    done_ends : (report text : List ℕ) (status : ℕ) → IsOutcome files words (done_with report text) → Appends text before.out after.out → IsToldOf (asked_of_words words) report
-        → IsReportTold report status before.err_faults after.err_faults before.err after.err → Ends files words status before after
+    done_ends : (report text : List ℕ) (status : ℕ) → IsAskedDue files asked (done_with report text) → Appends text before.out after.out → IsToldOf asked report
+        → IsReportTold report status before.err_faults after.err_faults before.err after.err → Ends files asked status before after
     done_ends report text status outcome all is (inl told) = inl (done_with report text, outcome, inl (record { status_is = told.0; out = all; err = told.1 }))
     done_ends report text status outcome all is (inr cut) =
         inl (
           done_with report text,
           outcome,
-          inr (inr (record { wanted = wanted_where (asked_of_words words) report is cut.1; well = refl; status_is = cut.0; rose = cut.2; out = all; err = cut.3 })),
+          inr (inr (record { wanted = wanted_where asked report is cut.1; well = refl; status_is = cut.0; rose = cut.2; out = all; err = cut.3 })),
         )
 
     pub ends_well : (report : List ℕ) (unit : Unit {0}) (status : ℕ)
-        → Answers (IsOutcome files words) report (Ok unit) before.out_faults after.out_faults before.out after.out
-        ⊎ (IsReadFault files (asked_of_words words) (Ok unit) before.read_faults after.read_faults before.out after.out
-        ⊎ AnswersMidway (IsMidway files words) (Ok unit) before.out_faults after.out_faults before.out after.out)
-        → IsToldOf (asked_of_words words) report
+        → Answers (IsAskedDue files asked) report (Ok unit) before.out_faults after.out_faults before.out after.out
+        ⊎ (IsReadFault files asked (Ok unit) before.read_faults after.read_faults before.out after.out
+        ⊎ AnswersMidway (IsAskedMidway files asked) (Ok unit) before.out_faults after.out_faults before.out after.out)
+        → IsToldOf asked report
         → IsReportTold report status before.err_faults after.err_faults before.err after.err
-        → Ends files words status before after
+        → Ends files asked status before after
     ends_well report unit status (inl (inl all)) is told = done_ends report all.0 status all.1 all.2 is told
     ends_well report unit status (inl (inr (inl (due, outcome, halt, part)))) is told = absurd (not_halted unit before.out_faults after.out_faults halt)
     ends_well report unit status (inl (inr (inr (memory, none)))) is told = absurd (ok_err unit refusal.Memory memory)
     ends_well report unit status (inr (inl (name, file, read, rose, none))) is told = absurd (ok_err unit (refusal.Read name) read)
-    ends_well report unit status (inr (inr (below, text, midway, inl (short, all)))) is told = absurd (ok_err unit (refusal.MemoryBelow below) short)
+    ends_well report unit status (inr (inr (below, text, midway, inl (inl short, all)))) is told = absurd (ok_err unit (refusal.MemoryBelow below) short)
+    ends_well report unit status (inr (inr (below, text, midway, inl (inr (worker, stop), all)))) is told = absurd (ok_err unit (refusal.Stopped worker below) stop)
     ends_well report unit status (inr (inr (below, text, midway, inr (failed, rose, part)))) is told = absurd (ok_err unit refusal.Write failed)
 
 -- What is told whatever the files hold.
@@ -321,35 +336,36 @@ read_is refusal.Write is = absurd (omega arith)
 read_is (refusal.Budget budget) is = absurd (omega arith)
 read_is (refusal.TimelineBudget timeline budget below) is = absurd (omega arith)
 read_is (refusal.MemoryBelow below) is = absurd (omega arith)
+read_is (refusal.Stopped worker below) is = absurd (omega arith)
 
--- what words ask is answered
-module _ (words : List (List ℕ)) (asked : Asked) (names : List (List ℕ)) (asks : asked_of_words words ≡ Some asked) (same : names ≡ asked.files) where
-  outcome_of : (files : Files) (tree : Result Attributes Refusal) (due : Due) → AreRead files 0 names tree → IsTreeDue asked tree due → IsOutcome files words due
+-- what is asked is answered
+module _ (o : Option Asked) (asked : Asked) (names : List (List ℕ)) (asks : o ≡ Some asked) (same : names ≡ asked.files) where
+  outcome_of : (files : Files) (tree : Result Attributes Refusal) (due : Due) → AreRead files 0 names tree → IsTreeDue asked tree due → IsAskedDue files o due
   outcome_of files tree due read is =
-      subst (λ (o : Option Asked). IsAskedDue files o due) (sym asks) (tree, subst (λ (l : List (List ℕ)). AreRead files 0 l tree) same read, is)
+      subst (λ (x : Option Asked). IsAskedDue files x due) (sym asks) (tree, subst (λ (l : List (List ℕ)). AreRead files 0 l tree) same read, is)
 
   -- and so is what stands where they are ended in the middle of a run
-  midway_of : (files : Files) (tree : Result Attributes Refusal) (below : ℕ) (text : List ℕ) → AreRead files 0 names tree → IsTreeMidway asked tree below text → IsMidway files words below text
+  midway_of : (files : Files) (tree : Result Attributes Refusal) (below : ℕ) (text : List ℕ) → AreRead files 0 names tree → IsTreeMidway asked tree below text → IsAskedMidway files o below text
   midway_of files tree below text read is =
-      subst (λ (o : Option Asked). IsAskedMidway files o below text) (sym asks) (tree, subst (λ (l : List (List ℕ)). AreRead files 0 l tree) same read, is)
+      subst (λ (x : Option Asked). IsAskedMidway files x below text) (sym asks) (tree, subst (λ (l : List (List ℕ)). AreRead files 0 l tree) same read, is)
 
   unread_answer : (files : Files) (report : List ℕ) (r : Refusal) (read read' faults : ℕ) (held : Option (List ℕ))
       → ((r ≡ refusal.Memory) ⊎ (status_of r ≡ 3)) ⊎ AreRead files 0 names (Err r) → ((name : List ℕ) → r ≡ refusal.Read name → IsReached files 0 names name) → (status_of r ≡ 3 → Rose read read')
-      → Answers (IsOutcome files words) report (Err r) faults faults held held
-      ⊎ (IsReadFault files (asked_of_words words) (Err r) read read' held held ⊎ AnswersMidway (IsMidway files words) (Err r) faults faults held held)
+      → Answers (IsAskedDue files o) report (Err r) faults faults held held
+      ⊎ (IsReadFault files (o) (Err r) read read' held held ⊎ AnswersMidway (IsAskedMidway files o) (Err r) faults faults held held)
   unread_answer files report r read read' faults held (inl (inl m)) reached rose = inl (inr (inr (ap (λ (s : Refusal). Err s) m, appends_nothing held)))
   unread_answer files report r read read' faults held (inl (inr three)) reached rose =
       let found : (name : List ℕ) × (r ≡ refusal.Read name) = read_is r three in
       let file : IsReached files 0 names found.0 = reached found.0 found.1 in
-      inr (inl (found.0, of_file files asked (asked_of_words words) names found.0 asks same file, ap (λ (s : Refusal). Err s) found.1, rose three, appends_nothing held))
+      inr (inl (found.0, of_file files asked (o) names found.0 asks same file, ap (λ (s : Refusal). Err s) found.1, rose three, appends_nothing held))
   unread_answer files report r read read' faults held (inr are) reached rose = inl (inl ([], outcome_of files (Err r) (refused r []) are refl, appends_nothing held))
 
   -- where the files were refused
   pub unread_answers : (told : Option Files) (report : List ℕ) (r : Refusal) (read read' faults : ℕ) (held : Option (List ℕ))
       → ((r ≡ refusal.Memory) ⊎ (status_of r ≡ 3)) ⊎ IfSome told (λ files. AreRead files 0 names (Err r))
       → ((name : List ℕ) → r ≡ refusal.Read name → IfSome told (λ files. IsReached files 0 names name)) → (status_of r ≡ 3 → Rose read read')
-      → IfSome told (λ files. Answers (IsOutcome files words) report (Err r) faults faults held held
-      ⊎ (IsReadFault files (asked_of_words words) (Err r) read read' held held ⊎ AnswersMidway (IsMidway files words) (Err r) faults faults held held))
+      → IfSome told (λ files. Answers (IsAskedDue files o) report (Err r) faults faults held held
+      ⊎ (IsReadFault files (o) (Err r) read read' held held ⊎ AnswersMidway (IsAskedMidway files o) (Err r) faults faults held held))
   unread_answers None report r read read' faults held are reached rose = tt
   unread_answers (Some files) report r read read' faults held are reached rose = unread_answer files report r read read' faults held are reached rose
 
@@ -375,24 +391,24 @@ said_write r status faults faults' held held' is said = subst (λ (s : Refusal).
 
 -- How the call ends, where the files are told.
 
-pub told_refused : (told : Option Files) (words : List (List ℕ)) (before after : Outside) (report : List ℕ) (r : Refusal) (status : ℕ)
-    → IfSome told (λ files. Answers (IsOutcome files words) report (Err r) before.out_faults after.out_faults before.out after.out
-    ⊎ (IsReadFault files (asked_of_words words) (Err r) before.read_faults after.read_faults before.out after.out
-    ⊎ AnswersMidway (IsMidway files words) (Err r) before.out_faults after.out_faults before.out after.out))
-    → Concerns (asked_of_words words) r
-    → (r ≡ refusal.Memory → MayEndMidway (asked_of_words words) → Appends [] before.out after.out) → (2 ≤ status_of r → status_of r ≤ 6 → Appends [] before.out after.out)
+pub told_refused : (told : Option Files) (asked : Option Asked) (before after : Outside) (report : List ℕ) (r : Refusal) (status : ℕ)
+    → IfSome told (λ files. Answers (IsAskedDue files asked) report (Err r) before.out_faults after.out_faults before.out after.out
+    ⊎ (IsReadFault files asked (Err r) before.read_faults after.read_faults before.out after.out
+    ⊎ AnswersMidway (IsAskedMidway files asked) (Err r) before.out_faults after.out_faults before.out after.out))
+    → Concerns asked r
+    → (r ≡ refusal.Memory → MayEndMidway asked → Appends [] before.out after.out) → (2 ≤ status_of r → status_of r ≤ 6 → Appends [] before.out after.out)
     → IsTold r status before.err_faults after.err_faults before.err after.err
-    → IfSome told (λ files. Ends files words status before after)
-told_refused None words before after report r status answers c unbegun nothing told = tt
-told_refused (Some files) words before after report r status answers c unbegun nothing told =
-    ends_refused before after files words report r status answers c (record { unbegun = unbegun; nothing = nothing }) told
+    → IfSome told (λ files. Ends files asked status before after)
+told_refused None asked before after report r status answers c unbegun nothing told = tt
+told_refused (Some files) asked before after report r status answers c unbegun nothing told =
+    ends_refused before after files asked report r status answers c (record { unbegun = unbegun; nothing = nothing }) told
 
-pub told_well : (told : Option Files) (words : List (List ℕ)) (before after : Outside) (report : List ℕ) (unit : Unit {0}) (status : ℕ)
-    → IfSome told (λ files. Answers (IsOutcome files words) report (Ok unit) before.out_faults after.out_faults before.out after.out
-    ⊎ (IsReadFault files (asked_of_words words) (Ok unit) before.read_faults after.read_faults before.out after.out
-    ⊎ AnswersMidway (IsMidway files words) (Ok unit) before.out_faults after.out_faults before.out after.out))
-    → IsToldOf (asked_of_words words) report
+pub told_well : (told : Option Files) (asked : Option Asked) (before after : Outside) (report : List ℕ) (unit : Unit {0}) (status : ℕ)
+    → IfSome told (λ files. Answers (IsAskedDue files asked) report (Ok unit) before.out_faults after.out_faults before.out after.out
+    ⊎ (IsReadFault files asked (Ok unit) before.read_faults after.read_faults before.out after.out
+    ⊎ AnswersMidway (IsAskedMidway files asked) (Ok unit) before.out_faults after.out_faults before.out after.out))
+    → IsToldOf asked report
     → IsReportTold report status before.err_faults after.err_faults before.err after.err
-    → IfSome told (λ files. Ends files words status before after)
-told_well None words before after report unit status answers is told = tt
-told_well (Some files) words before after report unit status answers is told = ends_well before after files words report unit status answers is told
+    → IfSome told (λ files. Ends files asked status before after)
+told_well None asked before after report unit status answers is told = tt
+told_well (Some files) asked before after report unit status answers is told = ends_well before after files asked report unit status answers is told

@@ -107,6 +107,7 @@ one_of_files names number name refusal.Write within is h = h
 one_of_files names number name (refusal.Budget budget) within is h = h
 one_of_files names number name (refusal.TimelineBudget timeline budget below) within is h = h
 one_of_files names number name (refusal.MemoryBelow below) within is h = h
+one_of_files names number name (refusal.Stopped worker below) within is h = h
 
 -- a file that is reached from `number` on is reached
 abbrev pub Reaches : Files → List (String Global) → ℕ → Type 0

@@ -13,6 +13,7 @@ pub mod Reports
 pub mod Courses
 pub mod Schedules
 pub mod Stepping
+pub mod Stopping
 pub mod Pieced
 pub mod Weights
 pub mod Worked

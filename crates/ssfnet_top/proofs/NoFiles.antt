@@ -10,7 +10,7 @@ use Rattle.command_words.specs.declared.command.Command.TheVariants as commands
 use Rattle.command_words.specs.declared.name.CommandName.{CommandName}
 use Rattle.command_words.specs.declared.name.CommandName.TheVariants.{Dml, Check, Plan, Seq, Step, Run, Gen}
 use Rattle.command_words.specs.Table.{Text, is_one_of, row, named}
-use Rattle.command_words.specs.Words.{Asked, all_landed, asked_by, asked_of_words, command_in_table, command_of_words, files_in, have_values, in_row_of, is_in_row, is_word_of, stand_once}
+use Rattle.command_words.specs.Words.{Asked, asked_by, asked_of_words, command_in_table, files_in, have_values, in_row_of, is_in_row, is_word_of, stand_once}
 use Rattle.ssfnet_top.specs.declared.refusal.Refusal.{Refusal}
 use Rattle.ssfnet_top.specs.declared.refusal.Refusal.TheVariants as refusal
 use Rattle.ssfnet_top.specs.Outcome.{Due, done, AreRead, IsText, IsCommandDue, IsCommandMidway, IsTreeDue, IsAskedDue, IsOutcome}
@@ -81,15 +81,14 @@ in_row_named : (o : Option CommandName) (words : List Text) → no_files words (
 in_row_named None words asked seed size is gen = absurd (none_some asked is)
 in_row_named (Some name) words asked seed size is gen = in_row name words (is_in_row (row name) words) refl asked seed size is gen
 
-in_table : (b : Bool) (words : List Text) → no_files (drop 1 words) (if b then command_in_table words else None)
+in_table : (words : List Text) → no_files (drop 1 words) (command_in_table words)
 unfolding command_in_table
-in_table false words asked seed size is gen = absurd (none_some asked is)
-in_table true [] asked seed size is gen = absurd (none_some asked is)
-in_table true (name ∷ words) asked seed size is gen = in_row_named (named name) words asked seed size is gen
+in_table [] asked seed size is gen = absurd (none_some asked is)
+in_table (name ∷ words) asked seed size is gen = in_row_named (named name) words asked seed size is gen
 
 gen_has_no_files : (words : List Text) (asked : Asked) (seed size : ℕ) → asked_of_words words ≡ Some asked → asked.command ≡ commands.Gen seed size → asked.files ≡ []
-unfolding asked_of_words command_of_words
-gen_has_no_files words asked seed size is gen = in_table (all_landed words) words asked seed size is gen
+unfolding asked_of_words
+gen_has_no_files words asked seed size is gen = in_table words asked seed size is gen
 
 pub campus_outcome : (files : Files) (words : List Text) (asked : Asked) (seed size : ℕ) → asked_of_words words ≡ Some asked → asked.command ≡ commands.Gen seed size
     → IsOutcome files words (done (campus_text seed size))

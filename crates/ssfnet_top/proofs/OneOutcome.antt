@@ -222,12 +222,15 @@ command_agrees commands.Plan asked tree due other p q = inl (plan_once (resolved
 command_agrees (commands.Seq until budget) asked tree due other p q = model_run_agrees (by_list until budget asked.report) (resolved_of asked.files tree) due other p q
 command_agrees (commands.Step until budget aligned threshold) asked tree due other p q =
     model_run_agrees (on_timelines until budget asked.report aligned threshold) (resolved_of asked.files tree) due other p q
+command_agrees (commands.Run until budget aligned threshold workers) asked tree due other p q =
+    model_run_agrees (on_timelines until budget asked.report aligned threshold) (resolved_of asked.files tree) due other p q
 command_agrees (commands.Gen seed size) asked tree due other p q = inl (p ∙ sym q)
-command_agrees _ asked tree due other p q = absurd p
 
 command_begins : (command : Command) (asked : Asked) (tree : Attributes) (below : ℕ) (text : List ℕ) (due : Due) → IsCommandMidway command asked tree below text → IsCommandDue command asked tree due
     → Begins text due.out
 command_begins (commands.Step until budget aligned threshold) asked tree below text due p q =
+    model_run_begins (on_timelines until budget asked.report aligned threshold) (resolved_of asked.files tree) below text due p q
+command_begins (commands.Run until budget aligned threshold workers) asked tree below text due p q =
     model_run_begins (on_timelines until budget asked.report aligned threshold) (resolved_of asked.files tree) below text due p q
 command_begins _ asked tree below text due p q = absurd p
 

@@ -72,6 +72,34 @@ module _ (timeline budget below : ℕ) where
     pub cut_in_third : Appends first_piece old mid → Appends second_piece mid next → AppendsPrefix third_piece next new → AppendsPrefix (refusal_line (refusal.TimelineBudget timeline budget below)) old new
     cut_in_third p q r = subst (λ (t : List ℕ). AppendsPrefix t old new) three_pieces (part_then first_piece (second_piece ++ third_piece) old mid new p (part_then second_piece third_piece mid next new q r))
 
+-- the line of a worker that was stopped, in its two pieces
+module _ (worker below : ℕ) where
+  abbrev pub worker_piece : List ℕ
+  worker_piece = codes "stopped worker " ++ decimal worker
+
+  abbrev pub below_piece : List ℕ
+  below_piece = codes " below " ++ (decimal below ++ 10 ∷ [])
+
+  stop_pieces : worker_piece ++ below_piece ≡ refusal_line (refusal.Stopped worker below)
+  unfolding line_of
+  stop_pieces =
+      let a = codes "stopped worker " in
+      let b = decimal worker in
+      let c = codes " below " in
+      let d = decimal below in
+      let e : List ℕ = 10 ∷ [] in
+      append_assoc a b (c ++ (d ++ e)) ∙ sym (append_assoc a (b ++ (c ++ d)) e ∙ ap (λ t. a ++ t) (append_assoc b (c ++ d) e ∙ ap (λ t. b ++ t) (append_assoc c d e)))
+
+  module _ (old mid new : Option (List ℕ)) where
+    pub all_of_stop : Appends worker_piece old mid → Appends below_piece mid new → Appends (refusal_line (refusal.Stopped worker below)) old new
+    all_of_stop p q = subst (λ (t : List ℕ). Appends t old new) stop_pieces (appends_then worker_piece below_piece old mid new p q)
+
+    pub cut_in_worker : AppendsPrefix worker_piece old new → AppendsPrefix (refusal_line (refusal.Stopped worker below)) old new
+    cut_in_worker p = subst (λ (t : List ℕ). AppendsPrefix t old new) stop_pieces (prefix_first worker_piece below_piece old new p)
+
+    pub cut_in_below : Appends worker_piece old mid → AppendsPrefix below_piece mid new → AppendsPrefix (refusal_line (refusal.Stopped worker below)) old new
+    cut_in_below p q = subst (λ (t : List ℕ). AppendsPrefix t old new) stop_pieces (part_then worker_piece below_piece old mid new p q)
+
 -- the line of windows, in two pieces
 module _ (crossed last : ℕ) where
   abbrev pub crossed_piece : List ℕ

@@ -1,10 +1,13 @@
 -- What calls within the top call answer. No public clause cites this file.
-use Rattle.std.specs.Prelude.{ℕ, ◌≡◌, ◌+◌, ◌++◌, ◌⊎◌, Bool, true, false, List, [], Contains, Option, Some, None, Result, Ok, Err}
+use Rattle.std.specs.Prelude.{ℕ, ◌≡◌, ◌<◌, ◌++◌, ◌⊎◌, Bool, true, false, List, [], Contains, Option, Some, None, Result, Ok, Err}
 use Rattle.sim_base.specs.Outside.{Files, Rose, Appends, AppendsPrefix}
 use Rattle.dml_tree.specs.declared.reading.TreeFault.TheVariants as tree_fault
 use Rattle.net_graph.specs.declared.fault.ShapeFault.TheVariants as shape_fault
 use Rattle.trace_writer.specs.Report.{Totals, report_with}
 use Rattle.command_words.specs.declared.command.Command.{Command}
+use Rattle.command_words.specs.declared.command.Command.TheVariants as commands
+use Rattle.step_run.specs.declared.running.StepEnd.{StepEnd}
+use Rattle.step_run.specs.declared.running.StepEnd.TheVariants as end
 use Rattle.ssfnet_top.specs.declared.refusal.Refusal.{Refusal}
 use Rattle.ssfnet_top.specs.declared.refusal.Refusal.TheVariants as refusal
 use Rattle.ssfnet_top.specs.declared.running.Running.{Running}
@@ -12,9 +15,10 @@ use Rattle.ssfnet_top.specs.declared.running.Told.{Told}
 use Rattle.ssfnet_top.specs.declared.running.Way.{Way}
 use Rattle.ssfnet_top.specs.declared.running.Way.TheVariants as way
 use Rattle.ssfnet_top.specs.Refusals.{status_of}
+use Rattle.worker_run.specs.declared.running.WorkOrder.{WorkOrder}
 use Rattle.command_words.specs.Words.{Asked}
 use Rattle.ssfnet_top.specs.Outcome.{Due, done_with, refused, refusal_line, windows_line}
-use Rattle.ssfnet_top.specs.Ending.{HasBudget, HasTimelineBudget, HasMiddle, Resolves, HasModel, IsFaultOf, IsReport, IsLongReport, IsFileReached}
+use Rattle.ssfnet_top.specs.Ending.{HasBudget, HasTimelineBudget, HasMiddle, HasWorker, Resolves, HasModel, IsFaultOf, IsReport, IsLongReport, IsFileReached}
 
 -- Within a call, where files of these names are read: what a refusal may be.
 abbrev pub IsOfFiles : List (List ℕ) → Refusal → Type 0
@@ -28,6 +32,7 @@ IsOfFiles names refusal.Write = ⊥
 IsOfFiles names (refusal.Budget budget) = ⊥
 IsOfFiles names (refusal.TimelineBudget timeline budget below) = ⊥
 IsOfFiles names (refusal.MemoryBelow below) = ⊥
+IsOfFiles names (refusal.Stopped worker below) = ⊥
 
 -- Within a call, where a plan is made of the joined tree of files with these names: what a refusal may be.
 abbrev pub IsOfModel : List (List ℕ) → Refusal → Type 0
@@ -41,6 +46,7 @@ IsOfModel names refusal.Write = ⊥
 IsOfModel names (refusal.Budget budget) = ⊥
 IsOfModel names (refusal.TimelineBudget timeline budget below) = ⊥
 IsOfModel names (refusal.MemoryBelow below) = ⊥
+IsOfModel names (refusal.Stopped worker below) = ⊥
 
 -- Within a call, where a command does its work with the joined tree of files with these names: what a refusal may be.
 abbrev pub IsOfCommand : Command → List (List ℕ) → Refusal → Type 0
@@ -54,6 +60,12 @@ IsOfCommand command names refusal.Write = Unit {0}
 IsOfCommand command names (refusal.Budget budget) = HasBudget command budget
 IsOfCommand command names (refusal.TimelineBudget timeline budget below) = HasTimelineBudget command budget
 IsOfCommand command names (refusal.MemoryBelow below) = HasMiddle command
+IsOfCommand command names (refusal.Stopped worker below) = HasWorker command worker
+
+-- it is done on one thread
+abbrev pub IsOffline : Command → Type 0
+IsOffline (commands.Run until most aligned threshold workers) = ⊥
+IsOffline _ = Unit {0}
 
 -- Within a call, where the model of a resolved tree is run: what a refusal may be.
 
@@ -80,6 +92,7 @@ IsOfRun running refusal.Write = Unit {0}
 IsOfRun running (refusal.Budget most) = IsListBudget running.way running.budget most
 IsOfRun running (refusal.TimelineBudget timeline most below) = IsTimelineBudget running.way running.budget most
 IsOfRun running (refusal.MemoryBelow below) = IsOnTimelines running.way
+IsOfRun running (refusal.Stopped worker below) = ⊥
 
 -- where it is run on timelines
 abbrev pub IsOfSteps : ℕ → Refusal → Type 0
@@ -93,6 +106,15 @@ IsOfSteps budget refusal.Write = Unit {0}
 IsOfSteps budget (refusal.Budget most) = ⊥
 IsOfSteps budget (refusal.TimelineBudget timeline most below) = most ≡ budget
 IsOfSteps budget (refusal.MemoryBelow below) = Unit {0}
+IsOfSteps budget (refusal.Stopped worker below) = ⊥
+
+-- one of so many workers was stopped
+abbrev pub IsStop : ℕ → Refusal → Type 0
+IsStop workers r = (worker : ℕ) × (below : ℕ) × (r ≡ refusal.Stopped worker below) × (worker < workers)
+
+-- how a run by workers goes, by its order
+abbrev pub by_workers : WorkOrder → Bool → Running
+by_workers order wanted = record { until = order.until; budget = order.budget; report = wanted; way = way.Timelines order.mode order.threshold }
 
 -- what is told of the run
 abbrev pub IsToldBy : Way → Bool → List ℕ → Type 0
@@ -117,6 +139,15 @@ abbrev pub told_with : Bool → Totals → ℕ → ℕ → List ℕ
 told_with true totals crossed last = report_with totals ++ windows_line crossed last
 told_with false totals crossed last = []
 
+-- what a command answers whose run on timelines ended so
+abbrev pub answer_of : ℕ → StepEnd → Result (Unit {0}) Refusal
+answer_of budget (end.Finished crossed last) = Ok tt
+answer_of budget (end.OverBudget timeline below) = Err (refusal.TimelineBudget timeline budget below)
+answer_of budget (end.MemoryBelow below) = Err (refusal.MemoryBelow below)
+answer_of budget end.Memory = Err refusal.Memory
+answer_of budget (end.TooManyTimelines count) = Err (refusal.Shape (shape_fault.TooManyTimelines count))
+answer_of budget end.Write = Err refusal.Write
+
 -- nothing is told yet
 abbrev pub IsUntold : Told → Type 0
 IsUntold told = (told.report.items ≡ []) × (told.windows ≡ None)
@@ -139,11 +170,15 @@ Answers IsDue report answer faults faults' held held' =
     ⊎ (((due : Due) × IsDue due × IsHalt answer faults faults' × AppendsPrefix due.out held held')
     ⊎ ((answer ≡ Err refusal.Memory) × Appends [] held held'))
 
--- the run was ended in its middle, for want of memory or where a sink failed
+-- it was ended before a time, for want of memory or since a worker was stopped
+abbrev pub IsEndedBelow : Result (Unit {0}) Refusal → ℕ → Type 0
+IsEndedBelow answer below = (answer ≡ Err (refusal.MemoryBelow below)) ⊎ ((worker : ℕ) × (answer ≡ Err (refusal.Stopped worker below)))
+
+-- the run was ended in its middle, or a sink failed there
 abbrev pub AnswersMidway : (ℕ → List ℕ → Type 0) → Result (Unit {0}) Refusal → ℕ → ℕ → Option (List ℕ) → Option (List ℕ) → Type 0
 AnswersMidway IsMiddle answer faults faults' held held' =
     (below : ℕ) × (text : List ℕ) × IsMiddle below text
-    × (((answer ≡ Err (refusal.MemoryBelow below)) × Appends text held held') ⊎ ((answer ≡ Err refusal.Write) × Rose faults faults' × AppendsPrefix text held held'))
+    × ((IsEndedBelow answer below × Appends text held held') ⊎ ((answer ≡ Err refusal.Write) × Rose faults faults' × AppendsPrefix text held held'))
 
 -- the library failed at a file of this command that is reached, and nothing was written
 abbrev pub IsReadFault : Files → Option Asked → Result (Unit {0}) Refusal → ℕ → ℕ → Option (List ℕ) → Option (List ℕ) → Type 0
@@ -155,6 +190,7 @@ abbrev pub IsMade : Refusal → Type 0
 IsMade refusal.Write = ⊥
 IsMade (refusal.TimelineBudget timeline budget below) = ⊥
 IsMade (refusal.MemoryBelow below) = ⊥
+IsMade (refusal.Stopped worker below) = ⊥
 IsMade _ = Unit {0}
 
 -- the line of a refusal was written on `err`; or there was no memory for it; or `err` failed, and one of these lines

@@ -1,5 +1,5 @@
 -- How a call ends, measured by what is due: all of it, a part of it, or nothing.
-use Rattle.std.specs.Prelude.{ℕ, ◌≡◌, ◌+◌, ◌++◌, ◌⊎◌, Bool, true, false, List, [], ◌∷◌, Contains, Option, Some, None, IsSome, Ok}
+use Rattle.std.specs.Prelude.{ℕ, ◌≡◌, ◌<◌, ◌+◌, ◌++◌, ◌⊎◌, Bool, true, false, List, [], ◌∷◌, Contains, Option, Some, None, IsSome, Ok}
 use Rattle.std.specs.Option.{IsSomeAnd}
 use Rattle.sim_base.specs.Outside.{Files, Rose, Appends, AppendsPrefix}
 use Rattle.dml_tree.specs.Attributes.{Attributes}
@@ -15,8 +15,8 @@ use Rattle.command_words.specs.declared.command.Command.TheVariants as commands
 use Rattle.ssfnet_top.specs.declared.refusal.Refusal.{Refusal}
 use Rattle.ssfnet_top.specs.declared.refusal.Refusal.TheVariants as refusal
 use Rattle.ssfnet_top.specs.FilePlaces.{IsPlaced}
-use Rattle.command_words.specs.Words.{Asked, asked_of_words}
-use Rattle.ssfnet_top.specs.Outcome.{Due, refusal_line, windows_line, file_of_fault, IsFileRead, IsOutcome, IsMidway}
+use Rattle.command_words.specs.Words.{Asked}
+use Rattle.ssfnet_top.specs.Outcome.{Due, refusal_line, windows_line, file_of_fault, IsFileRead, IsAskedDue, IsAskedMidway}
 
 -- a file of this name is one of the command's
 abbrev pub IsFileOf : Option Asked → List ℕ → Type 0
@@ -33,11 +33,18 @@ HasBudget _ budget = ⊥
 -- it is run on timelines, with this budget
 abbrev pub HasTimelineBudget : Command → ℕ → Type 0
 HasTimelineBudget (commands.Step until most aligned threshold) budget = budget ≡ most
+HasTimelineBudget (commands.Run until most aligned threshold workers) budget = budget ≡ most
 HasTimelineBudget _ budget = ⊥
 
 abbrev pub HasMiddle : Command → Type 0
 HasMiddle (commands.Step until most aligned threshold) = Unit {0}
+HasMiddle (commands.Run until most aligned threshold workers) = Unit {0}
 HasMiddle _ = ⊥
+
+-- it is run by workers, and this is one of them, numbered from 0 on
+abbrev pub HasWorker : Command → ℕ → Type 0
+HasWorker (commands.Run until most aligned threshold workers) worker = worker < workers
+HasWorker _ worker = ⊥
 
 -- what is asked may be ended in the middle of a run
 abbrev pub MayEndMidway : Option Asked → Type 0
@@ -49,6 +56,7 @@ Resolves commands.Check = Unit {0}
 Resolves commands.Plan = Unit {0}
 Resolves (commands.Seq until most) = Unit {0}
 Resolves (commands.Step until most aligned threshold) = Unit {0}
+Resolves (commands.Run until most aligned threshold workers) = Unit {0}
 Resolves _ = ⊥
 
 abbrev pub HasModel : Command → Type 0
@@ -57,6 +65,7 @@ HasModel commands.Check = Unit {0}
 HasModel commands.Plan = Unit {0}
 HasModel (commands.Seq until most) = Unit {0}
 HasModel (commands.Step until most aligned threshold) = Unit {0}
+HasModel (commands.Run until most aligned threshold workers) = Unit {0}
 HasModel _ = ⊥
 
 -- the file is that of the fault, and one of these
@@ -74,6 +83,7 @@ Concerns asked refusal.Write = IsSome asked
 Concerns asked (refusal.Budget budget) = IsSomeAnd asked (λ a. HasBudget a.command budget)
 Concerns asked (refusal.TimelineBudget timeline budget below) = IsSomeAnd asked (λ a. HasTimelineBudget a.command budget)
 Concerns asked (refusal.MemoryBelow below) = MayEndMidway asked
+Concerns asked (refusal.Stopped worker below) = IsSomeAnd asked (λ a. HasWorker a.command worker)
 
 -- where a campus is asked, its text was written, whatever the files are
 abbrev pub Generates : Command → Option (List ℕ) → Option (List ℕ) → Type 0
@@ -96,16 +106,15 @@ abbrev pub IsLongReport : Bool → List ℕ → Type 0
 IsLongReport true text = (entries : List Entry) × (crossed : ℕ) × (last : ℕ) × (text ≡ report_of entries ++ windows_line crossed last)
 IsLongReport false text = text ≡ []
 
--- what a command tells there: `seq` and `step` a report where one is wanted, and the others nothing
+-- what a command tells there: `seq`, `step` and `run` a report where one is wanted, and the others nothing
 abbrev pub Tells : Command → Bool → List ℕ → Type 0
 Tells (commands.Dml flat) wanted text = text ≡ []
 Tells commands.Check wanted text = text ≡ []
 Tells commands.Plan wanted text = text ≡ []
 Tells (commands.Seq until budget) wanted text = IsReport wanted text
 Tells (commands.Step until budget aligned threshold) wanted text = IsLongReport wanted text
+Tells (commands.Run until budget aligned threshold workers) wanted text = IsLongReport wanted text
 Tells (commands.Gen seed size) wanted text = text ≡ []
--- no words ask for the commands that have not landed
-Tells _ wanted text = ⊥
 
 -- what is told there of these words
 abbrev pub IsToldOf : Option Asked → List ℕ → Type 0
@@ -198,16 +207,18 @@ pub record IsNothing (files : Files) (asked : Option Asked) (status : ℕ) (befo
   pub cause : IsStopped asked status before after ⊎ IsUnread files asked status before after
   pub out : Appends [] before.out after.out
 
--- a run was ended in its middle: for want of memory, with exactly the records before a time; or a sink failed, with a part of them
-pub record IsEndedMidway (files : Files) (words : List (List ℕ)) (status : ℕ) (before after : Outside) : Type 0 where
+-- a run was ended in its middle: for want of memory, or since the gate of a worker was closed, with exactly the records before a time; or a
+-- sink failed, with a part of them
+pub record IsEndedMidway (files : Files) (asked : Option Asked) (status : ℕ) (before after : Outside) : Type 0 where
   pub below : ℕ
   pub text : List ℕ
-  pub midway : IsMidway files words below text
+  pub midway : IsAskedMidway files asked below text
   pub ended : ((status ≡ 1) × Appends text before.out after.out × Appends (refusal_line (refusal.MemoryBelow below)) before.err after.err)
-      ⊎ ((status ≡ 7) × AppendsPrefix text before.out after.out × IsFailed (asked_of_words words) before after)
+      ⊎ (((worker : ℕ) × Concerns asked (refusal.Stopped worker below) × (status ≡ 9) × Appends text before.out after.out × Appends (refusal_line (refusal.Stopped worker below)) before.err after.err)
+      ⊎ ((status ≡ 7) × AppendsPrefix text before.out after.out × IsFailed asked before after))
 
--- A call with these words and these files ended with this status.
-abbrev pub Ends : Files → List (List ℕ) → ℕ → Outside → Outside → Type 0
-Ends files words status before after =
-    ((due : Due) × IsOutcome files words due × IsDone (asked_of_words words) due status before after)
-    ⊎ (IsNothing files (asked_of_words words) status before after ⊎ IsEndedMidway files words status before after)
+-- A call where this is asked with these files ended with this status.
+abbrev pub Ends : Files → Option Asked → ℕ → Outside → Outside → Type 0
+Ends files asked status before after =
+    ((due : Due) × IsAskedDue files asked due × IsDone asked due status before after)
+    ⊎ (IsNothing files asked status before after ⊎ IsEndedMidway files asked status before after)

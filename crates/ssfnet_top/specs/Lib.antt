@@ -4,4 +4,5 @@ pub mod Counts
 pub mod Ending
 pub mod FilePlaces
 pub mod Outcome
+pub mod Planning
 pub mod Refusals

@@ -317,7 +317,7 @@ mode_of align.Host = mode.Host
 mode_of align.Net = mode.Net
 mode_of (align.Parts parts) = mode.Count parts
 
--- how `step` does
+-- how `step` and `run` do
 abbrev pub on_timelines : ℕ → ℕ → Bool → Align → ℕ → Running
 on_timelines until budget wanted aligned threshold = record { until = until; budget = budget; report = wanted; way = way.Timelines (mode_of aligned) threshold }
 
@@ -331,7 +331,7 @@ asked_of request = record {
 }
 
 -- what a command has to do with the joined tree of the files, where this is asked; `gen` has no files, and asks
--- nothing of the tree
+-- nothing of the tree. What is due of `run` is what is due of `step`, whatever the number of workers
 abbrev pub IsCommandDue : Command → Asked → Attributes → Due → Type 0
 IsCommandDue (commands.Dml false) asked tree due = IsPrinted (Ok tree) due
 IsCommandDue (commands.Dml true) asked tree due = IsPrinted (resolved_of asked.files tree) due
@@ -339,13 +339,14 @@ IsCommandDue commands.Check asked tree due = IsText (counts_of (resolved_of aske
 IsCommandDue commands.Plan asked tree due = IsPlan (resolved_of asked.files tree) due
 IsCommandDue (commands.Seq until budget) asked tree due = IsModelRun (by_list until budget asked.report) (resolved_of asked.files tree) (Ended due)
 IsCommandDue (commands.Step until budget aligned threshold) asked tree due = IsModelRun (on_timelines until budget asked.report aligned threshold) (resolved_of asked.files tree) (Ended due)
+IsCommandDue (commands.Run until budget aligned threshold workers) asked tree due = IsModelRun (on_timelines until budget asked.report aligned threshold) (resolved_of asked.files tree) (Ended due)
 IsCommandDue (commands.Gen seed size) asked tree due = IsText (Ok (campus_text seed size)) due
--- no words ask for the commands that have not landed
-IsCommandDue _ asked tree due = ⊥
 
 -- what stands on `out` where the command is ended in the middle of a run, with the records before a time
 abbrev pub IsCommandMidway : Command → Asked → Attributes → ℕ → List ℕ → Type 0
 IsCommandMidway (commands.Step until budget aligned threshold) asked tree below text =
+    IsModelRun (on_timelines until budget asked.report aligned threshold) (resolved_of asked.files tree) (Midway below text)
+IsCommandMidway (commands.Run until budget aligned threshold workers) asked tree below text =
     IsModelRun (on_timelines until budget asked.report aligned threshold) (resolved_of asked.files tree) (Midway below text)
 IsCommandMidway _ asked tree below text = ⊥
 
@@ -356,6 +357,15 @@ IsTreeDue asked (Err r) due = due ≡ refused r []
 abbrev pub IsAskedDue : Files → Option Asked → Due → Type 0
 IsAskedDue files None due = due ≡ refused refusal.Words []
 IsAskedDue files (Some asked) due = (tree : Result Attributes Refusal) × AreRead files 0 asked.files tree × IsTreeDue asked tree due
+
+-- what is asked on one thread: `run` is not
+abbrev pub unless_run : Command → Asked → Option Asked
+unless_run (commands.Run until budget aligned threshold workers) asked = None
+unless_run _ asked = Some asked
+
+abbrev pub offline_of : Option Asked → Option Asked
+offline_of None = None
+offline_of (Some asked) = unless_run asked.command asked
 
 -- the outcome of these words with these files
 abbrev pub IsOutcome : Files → List (List ℕ) → Due → Type 0

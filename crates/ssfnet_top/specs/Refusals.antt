@@ -1,7 +1,7 @@
 -- What the program answers where it does not end well: the status, and the line on `err`.
 use Rattle.std.specs.Prelude.{ℕ, nat_lt, if◌then◌else◌, List, ◌∷◌, ◌++◌, map, codes, decimal}
 use Rattle.ssfnet_top.specs.declared.refusal.Refusal.{Refusal}
-use Rattle.ssfnet_top.specs.declared.refusal.Refusal.TheVariants.{Memory, Words, Read, Dml, Path, Shape, Write, Budget, TimelineBudget, MemoryBelow}
+use Rattle.ssfnet_top.specs.declared.refusal.Refusal.TheVariants.{Memory, Words, Read, Dml, Path, Shape, Write, Budget, TimelineBudget, MemoryBelow, Stopped}
 use Rattle.dml_tree.specs.declared.reading.TreeFault.{TreeFault}
 use Rattle.dml_tree.specs.declared.reading.TreeFault.TheVariants.{BadByte, OpenQuote, KeyWanted, ValueWanted, OpenList, StrayClose, NestedTooDeep, TooLong, Memory as TreeMemory}
 use Rattle.dml_tree.specs.declared.tree.Place.{Place}
@@ -29,6 +29,7 @@ status_of Write = 7
 status_of (Budget budget) = 8
 status_of (TimelineBudget timeline budget below) = 8
 status_of (MemoryBelow below) = 1
+status_of (Stopped worker below) = 9
 
 -- the name of a fault in a DML text, and its place
 unfoldable pub tree_fault_text : TreeFault → List ℕ
@@ -83,3 +84,4 @@ line_of Write = codes "write"
 line_of (Budget budget) = codes "budget list " ++ decimal budget
 line_of (TimelineBudget timeline budget below) = codes "budget timeline " ++ (decimal timeline ++ (32 ∷ decimal budget ++ (codes " below " ++ decimal below)))
 line_of (MemoryBelow below) = codes "memory below " ++ decimal below
+line_of (Stopped worker below) = codes "stopped worker " ++ (decimal worker ++ (codes " below " ++ decimal below))

@@ -29,6 +29,13 @@ pub fn both_ways_write_the_same()
         → one.files ≡ two.files → IsOutcome files words due → IsOutcome files others other → due.status ≡ 0 → other.status ≡ 0 → due.out ≡ other.out }
 {}
 
+/// What is due of words of `step` is due of words of `run` with the same files and options, whatever the number of workers.
+pub fn workers_change_nothing()
+    ensures { (files : Files) (words others : List (List ℕ)) (one two : Asked) (until budget threshold workers : ℕ) (aligned : AlignValue) (due : Due)
+        → asked_of_words words ≡ Some one → one.command ≡ commands.Step until budget aligned threshold → asked_of_words others ≡ Some two → two.command ≡ commands.Run until budget aligned threshold workers
+        → one.files ≡ two.files → one.report ≡ two.report → IsOutcome files words due → IsOutcome files others due }
+{}
+
 /// The outcome of the words of `gen` is the text of a campus, whatever the files are.
 pub fn campuses_need_no_files()
     ensures { (files : Files) (words : List (List ℕ)) (asked : Asked) (seed size : ℕ) → asked_of_words words ≡ Some asked → asked.command ≡ commands.Gen seed size → IsOutcome files words (done (campus_text seed size)) }

@@ -1,7 +1,7 @@
-//! The commands of the program, `dml`, `check`, `plan`, `seq`, `step` and `gen`: from words and files to the
+//! The commands of the program, `dml`, `check`, `plan`, `seq`, `step`, `run` and `gen`: from words and files to the
 //! bytes written and the status.
 //!
-//! The whole meaning of a call is `IsOutcome` of `specs/Outcome.antt`: from words and the files that
+//! The whole meaning of a call is `IsAskedDue` of `specs/Outcome.antt`: from what words ask and the files that
 //! the library tells to the status and the bytes that are due; `specs/Ending.antt` says how a call
 //! ends, measured by that. They cite the definitions of `command_words` (what words ask),
 //! `specs/FilePlaces.antt` (in which files attributes stand), `specs/Counts.antt` (the lines of counts)
@@ -22,8 +22,12 @@ mod running;
 mod seq;
 mod step;
 mod telling;
+mod threaded;
 mod top;
+mod workers;
 mod writing;
 
 pub use refusal::Refusal;
+pub use threaded::ssfnet;
 pub use top::offline;
+pub use worker_pool::Lane;

@@ -1,4 +1,4 @@
-//! Running models: from a tree to its plan, and to the run of the plan in the way that is asked.
+//! Models: from a tree to its plan, and to the run of the plan on one thread, in the way that is asked.
 ghost use Rattle.std.specs.Prelude.{◌≡◌, ◌≤◌, ◌⊎◌, ℕ, List, [], true, false, Err, None, Some, option_map, length, map, string_bytes, IfOk, IfErr, IsOkAnd, OnOk};
 ghost use Rattle.dml_tree.specs.TreeView.{attributes};
 ghost use Rattle.net_graph.specs.Keys.{has_net};
@@ -12,10 +12,11 @@ ghost use Rattle.command_words.specs.Table.{LatestUntil, LargestBudget};
 ghost use Rattle.sync_steps.specs.Schedules.{steps_of};
 ghost use Rattle.sim_base.specs.Outside.{Rose, Appends};
 ghost use Rattle.ssfnet_top.specs.Refusals.{status_of};
-ghost use Rattle.ssfnet_top.specs.Outcome.{Course, resolved_of, planned_network, IsCourse, IsRunIn, IsModelRun};
+ghost use Rattle.ssfnet_top.specs.Outcome.{Course, resolved_of, planned_network, IsCourse, IsModelRun};
 ghost use Rattle.ssfnet_top.specs.Outcome.Course.{Ended, Midway};
 ghost use Rattle.ssfnet_top.specs.FilePlaces.{ArePlaced};
 ghost use Rattle.ssfnet_top.specs.Answering.{Answers, AnswersMidway, IsOfModel, IsOfRun, IsOnTimelines, IsToldBy, IsUntold, told_text};
+ghost use Rattle.ssfnet_top.specs.Planning.{IsPlanned, IsPlannedIn, IsFault, IsFaultIn, IsReady};
 
 use crate::Refusal;
 use crate::resolving::resolve_files;
@@ -28,11 +29,19 @@ use net_build::{Built, ring_plan};
 use net_graph::{ShapeFault, is_net};
 use net_plan::plan_of;
 use net_resolve::build_network;
+use ring_model::Ring;
 use sim_base::{Memory, Sink};
 use ssf_model::Behaviour;
 use std::alloc::Global;
 use step_run::StepOrder;
 use sync_steps::{ScheduleFault, Step, read_schedule};
+
+/// The plan of a model: a network of hosts, or a ring.
+#[derive(Drop)]
+pub enum Planned {
+    Hosts(Built<Host>),
+    Ring(Built<Ring>),
+}
 
 /// Runs the model of the joined tree of files with these names, and writes the trace. On timelines the
 /// steps of the schedule are tried first. Where a report is wanted it is told.
@@ -61,8 +70,9 @@ pub fn run_model<K: Sink>(
     ensures nothing { IfErr result (λ r. IsOfModel (map string_bytes names.now) r → ¬ (r ≡ Refusal.Memory) → Appends [] (K.held out.old) (K.held out.new)) }
     ensures unbegun { IfErr result (λ r. r ≡ Refusal.Memory → IsOnTimelines running.now.way → Appends [] (K.held out.old) (K.held out.new)) }
 {
-    match resolve_files(alloc, names, tree) {
-        Ok(resolved) => run_resolved(alloc, running, schedule, &resolved, out, told),
+    match plan_model(alloc, names, tree) {
+        Ok(Planned::Hosts(built)) => simulate(alloc, built, running, schedule, out, told),
+        Ok(Planned::Ring(built)) => simulate(alloc, built, running, schedule, out, told),
         Err(refusal) => Err(refusal),
     }
 }
@@ -112,57 +122,44 @@ fn schedule_of(alloc: Global, schedule: &Option<String>) -> Result<Vec<Step>, Me
     }
 }
 
-/// Runs the model of a resolved tree.
-fn run_resolved<K: Sink>(
-    alloc: Global,
-    running: &Running,
-    schedule: &[Step],
-    tree: &Tree,
-    out: &mut K,
-    told: &mut Told,
-) -> Result<(), Refusal>
-    requires until { running.now.until ≤ LatestUntil }
-    requires budget { running.now.budget ≤ LargestBudget }
-    requires few { HasFewTokens (attributes tree.now) }
-    requires untold { IsUntold told.old }
-    ensures due { Answers (λ due. IsRunIn running.now (has_net (attributes tree.now)) (attributes tree.now) (Ended due)) (told_text told.new) result (K.faults out.old) (K.faults out.new) (K.held out.old) (K.held out.new)
-        ⊎ AnswersMidway (λ below text. IsRunIn running.now (has_net (attributes tree.now)) (attributes tree.now) (Midway below text)) result (K.faults out.old) (K.faults out.new) (K.held out.old) (K.held out.new) }
-    ensures cause { IfErr result (λ r. IsOfRun running.now r) }
-    ensures write { IfErr result (λ r. r ≡ Refusal.Write → Rose (K.faults out.old) (K.faults out.new)) }
-    ensures told { OnOk result (IsToldBy running.now.way running.now.report (told_text told.new)) }
-    ensures nothing { IfErr result (λ r. status_of r ≡ 6 → Appends [] (K.held out.old) (K.held out.new)) }
-    ensures unbegun { IfErr result (λ r. r ≡ Refusal.Memory → IsOnTimelines running.now.way → Appends [] (K.held out.old) (K.held out.new)) }
+/// The plan of the model of the joined tree of files with these names.
+///
+/// # Errors
+/// `Path` and `Shape` with the first fault of the tree, and `Memory`.
+pub fn plan_model(alloc: Global, names: &[String], tree: &Tree) -> Result<Planned, Refusal>
+    requires { ArePlaced (map string_bytes names.now) tree.now }
+    ensures planned { IfOk result (λ planned. IsPlanned (resolved_of (map string_bytes names.now) tree.now) planned) }
+    ensures ready { IfOk result (λ planned. IsReady planned) }
+    ensures fault { IfErr result (λ r. (r ≡ Refusal.Memory) ⊎ IsFault (resolved_of (map string_bytes names.now) tree.now) r) }
+    ensures cause { IfErr result (λ r. IsOfModel (map string_bytes names.now) r) }
 {
-    if is_net(tree) {
-        run_network(alloc, running, schedule, tree, out, told)
-    } else {
-        run_ring(alloc, running, schedule, tree, out, told)
+    let resolved = match resolve_files(alloc, names, tree) {
+        Ok(resolved) => resolved,
+        Err(refusal) => return Err(refusal),
+    };
+    match plan_resolved(alloc, &resolved) {
+        Ok(planned) => Ok(planned),
+        Err(fault) => Err(Refusal::from(fault)),
     }
 }
 
-/// Runs the network of hosts of a resolved tree.
-fn run_network<K: Sink>(
-    alloc: Global,
-    running: &Running,
-    schedule: &[Step],
-    tree: &Tree,
-    out: &mut K,
-    told: &mut Told,
-) -> Result<(), Refusal>
-    requires until { running.now.until ≤ LatestUntil }
-    requires budget { running.now.budget ≤ LargestBudget }
-    requires untold { IsUntold told.old }
-    ensures due { Answers (λ due. IsRunIn running.now true (attributes tree.now) (Ended due)) (told_text told.new) result (K.faults out.old) (K.faults out.new) (K.held out.old) (K.held out.new)
-        ⊎ AnswersMidway (λ below text. IsRunIn running.now true (attributes tree.now) (Midway below text)) result (K.faults out.old) (K.faults out.new) (K.held out.old) (K.held out.new) }
-    ensures cause { IfErr result (λ r. IsOfRun running.now r) }
-    ensures write { IfErr result (λ r. r ≡ Refusal.Write → Rose (K.faults out.old) (K.faults out.new)) }
-    ensures told { OnOk result (IsToldBy running.now.way running.now.report (told_text told.new)) }
-    ensures nothing { IfErr result (λ r. status_of r ≡ 6 → Appends [] (K.held out.old) (K.held out.new)) }
-    ensures unbegun { IfErr result (λ r. r ≡ Refusal.Memory → IsOnTimelines running.now.way → Appends [] (K.held out.old) (K.held out.new)) }
+/// The plan of the model of a resolved tree.
+fn plan_resolved(alloc: Global, tree: &Tree) -> Result<Planned, ShapeFault>
+    requires { HasFewTokens (attributes tree.now) }
+    ensures planned { IfOk result (λ planned. IsPlannedIn (has_net (attributes tree.now)) (attributes tree.now) planned) }
+    ensures ready { IfOk result (λ planned. IsReady planned) }
+    ensures cause { IfErr result (λ fault. (fault ≡ ShapeFault.Memory) ⊎ IsFaultIn (has_net (attributes tree.now)) (attributes tree.now) fault) }
 {
-    match build_hosts(alloc, tree) {
-        Ok(built) => simulate(alloc, built, running, schedule, out, told),
-        Err(fault) => Err(Refusal::from(fault)),
+    if is_net(tree) {
+        match build_hosts(alloc, tree) {
+            Ok(built) => Ok(Planned::Hosts(built)),
+            Err(fault) => Err(fault),
+        }
+    } else {
+        match ring_plan(alloc, tree) {
+            Ok(built) => Ok(Planned::Ring(built)),
+            Err(fault) => Err(fault),
+        }
     }
 }
 
@@ -177,34 +174,6 @@ fn build_hosts(alloc: Global, tree: &Tree) -> Result<Built<Host>, ShapeFault>
     let network = build_network(alloc, tree)?;
     let built = plan_of(alloc, &network)?;
     Ok(built)
-}
-
-/// Runs the ring of a resolved tree.
-fn run_ring<K: Sink>(
-    alloc: Global,
-    running: &Running,
-    schedule: &[Step],
-    tree: &Tree,
-    out: &mut K,
-    told: &mut Told,
-) -> Result<(), Refusal>
-    requires until { running.now.until ≤ LatestUntil }
-    requires budget { running.now.budget ≤ LargestBudget }
-    requires model { has_net (attributes tree.now) ≡ false }
-    requires few { HasFewTokens (attributes tree.now) }
-    requires untold { IsUntold told.old }
-    ensures due { Answers (λ due. IsRunIn running.now false (attributes tree.now) (Ended due)) (told_text told.new) result (K.faults out.old) (K.faults out.new) (K.held out.old) (K.held out.new)
-        ⊎ AnswersMidway (λ below text. IsRunIn running.now false (attributes tree.now) (Midway below text)) result (K.faults out.old) (K.faults out.new) (K.held out.old) (K.held out.new) }
-    ensures cause { IfErr result (λ r. IsOfRun running.now r) }
-    ensures write { IfErr result (λ r. r ≡ Refusal.Write → Rose (K.faults out.old) (K.faults out.new)) }
-    ensures told { OnOk result (IsToldBy running.now.way running.now.report (told_text told.new)) }
-    ensures nothing { IfErr result (λ r. status_of r ≡ 6 → Appends [] (K.held out.old) (K.held out.new)) }
-    ensures unbegun { IfErr result (λ r. r ≡ Refusal.Memory → IsOnTimelines running.now.way → Appends [] (K.held out.old) (K.held out.new)) }
-{
-    match ring_plan(alloc, tree) {
-        Ok(built) => simulate(alloc, built, running, schedule, out, told),
-        Err(fault) => Err(Refusal::from(fault)),
-    }
 }
 
 /// Runs a plan in the way that is asked.

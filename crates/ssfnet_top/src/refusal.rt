@@ -45,6 +45,11 @@ pub enum Refusal {
     /// There was no memory to go on with a run on timelines. The records with times below this one, in
     /// ticks, were written.
     MemoryBelow(u64),
+    /// The gate of this worker was closed. The records with times below this one, in ticks, were written.
+    Stopped {
+        worker: u32,
+        below: u64,
+    },
 }
 
 impl From<Memory> for Refusal {
@@ -90,6 +95,7 @@ impl Refusal {
             Refusal::Budget(_) => 8,
             Refusal::TimelineBudget { .. } => 8,
             Refusal::MemoryBelow(_) => 1,
+            Refusal::Stopped { .. } => 9,
         }
     }
 
@@ -116,6 +122,7 @@ impl Refusal {
                 below,
             } => push_timeline(out, *timeline, *budget, *below)?,
             Refusal::MemoryBelow(below) => push_count(out, b"memory below ", *below)?,
+            Refusal::Stopped { worker, below } => push_stopped(out, *worker, *below)?,
         }
         push(out, b"\n")
     }
@@ -161,6 +168,14 @@ fn push_timeline(out: &mut Vec<u8>, timeline: u32, budget: u64, below: u64) -> R
 {
     push_count(out, b"budget timeline ", u64::from(timeline))?;
     push_count(out, b" ", budget)?;
+    push_count(out, b" below ", below)
+}
+
+/// Appends the words of a worker that was stopped.
+fn push_stopped(out: &mut Vec<u8>, worker: u32, below: u64) -> Result<(), Memory>
+    ensures { OnOk result (out.new.items ≡ out.old.items ++ (codes "stopped worker " ++ (decimal worker ++ (codes " below " ++ decimal below)))) }
+{
+    push_count(out, b"stopped worker ", u64::from(worker))?;
     push_count(out, b" below ", below)
 }
 

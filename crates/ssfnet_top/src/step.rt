@@ -1,13 +1,13 @@
 //! The command `step`: the run of a plan on timelines, on one thread, and its trace.
-ghost use Rattle.std.specs.Prelude.{◌≡◌, ◌≤◌, ◌+◌, ◌⊎◌, ◌++◌, ◌∷◌, [], true, None, Some, Err, length, vec_len, cond, codes, decimal, option_map, map, string_bytes, IfOk, IfErr, OnOk, OnErr, IsErrAnd};
+ghost use Rattle.std.specs.Prelude.{◌≡◌, ◌≤◌, ◌+◌, ◌⊎◌, [], true, length, vec_len, IfErr, OnOk};
 ghost use Rattle.std.specs.Vec.{vec_capacity};
 ghost use Rattle.ssf_model.specs.Run.{Fits};
 ghost use Rattle.command_words.specs.Table.{LatestUntil, LargestBudget};
 ghost use Rattle.sim_base.specs.Outside.{Rose, Appends};
-ghost use Rattle.trace_writer.specs.Report.{report_with};
+ghost use Rattle.step_run.specs.Endings.{IfFinished};
 ghost use Rattle.ssfnet_top.specs.Refusals.{status_of};
 ghost use Rattle.ssfnet_top.specs.Outcome.{IsDueOn, IsMidwayOn};
-ghost use Rattle.ssfnet_top.specs.Answering.{Answers, AnswersMidway, IsUntold, told_text, told_with, IsOfSteps};
+ghost use Rattle.ssfnet_top.specs.Answering.{Answers, AnswersMidway, IsUntold, answer_of, told_text, told_with, IsOfSteps};
 ghost use Rattle.ssfnet_top.specs.Ending.{IsLongReport};
 
 use crate::Refusal;
@@ -54,14 +54,31 @@ pub fn run_on_timelines<B: Behaviour, K: Sink>(
         return Err(Refusal::Memory);
     }
     let mut tally = Tally::new();
-    match run_steps(alloc, plan, &names, nets.as_slice(), order, &mut tally, out) {
+    let end = run_steps(alloc, plan, &names, nets.as_slice(), order, &mut tally, out);
+    answer_end(end, order.budget, report, &tally, told)
+}
+
+/// What a command answers whose run on timelines ended so. Where the run finished and a report is wanted, tells it and the windows.
+pub fn answer_end(
+    end: StepEnd,
+    budget: u64,
+    report: bool,
+    tally: &Tally,
+    told: &mut Told,
+) -> Result<(), Refusal>
+    requires untold { IsUntold told.old }
+    requires room { report ≡ true → vec_len told.old.report + REPORT_ROOM ≤ vec_capacity told.old.report }
+    ensures answer { result ≡ answer_of budget end }
+    ensures told { IfFinished end (λ crossed last. told_text told.new ≡ told_with report tally.now crossed last) }
+{
+    match end {
         StepEnd::Finished { crossed, last } => {
-            tell_run(report, &tally, crossed, last, told);
+            tell_run(report, tally, crossed, last, told);
             Ok(())
         }
         StepEnd::OverBudget { timeline, below } => Err(Refusal::TimelineBudget {
             timeline,
-            budget: order.budget,
+            budget,
             below,
         }),
         StepEnd::MemoryBelow(below) => Err(Refusal::MemoryBelow(below)),
@@ -74,7 +91,7 @@ pub fn run_on_timelines<B: Behaviour, K: Sink>(
 }
 
 /// Takes the room for a report where one is wanted.
-fn make_room(report: bool, told: &mut Told) -> Result<(), Memory>
+pub fn make_room(report: bool, told: &mut Told) -> Result<(), Memory>
     requires { IsUntold told.old }
     ensures untold { IsUntold told.new }
     ensures room { OnOk result (report ≡ true → vec_len told.new.report + REPORT_ROOM ≤ vec_capacity told.new.report) }

@@ -57,6 +57,17 @@ pub fn write_timeline<J: Sink>(
     write_last(b" below ", below, err)
 }
 
+/// Writes the line that a worker was stopped, with exactly the records below this time.
+#[tactic(auto, unfolding(crate::specs::Refusals::line_of))]
+pub fn write_stopped<J: Sink>(worker: u32, below: u64, err: &mut J) -> Result<(), Failed>
+    ensures all { OnOk result (Appends (refusal_line (refusal.Stopped worker below)) (J.held err.old) (J.held err.new)) }
+    ensures part { OnErr result (AppendsPrefix (refusal_line (refusal.Stopped worker below)) (J.held err.old) (J.held err.new)) }
+    ensures cause { OnErr result (Rose (J.faults err.old) (J.faults err.new)) }
+{
+    write_count(b"stopped worker ", u64::from(worker), err)?;
+    write_last(b" below ", below, err)
+}
+
 /// Writes the line of the windows that were crossed.
 pub fn write_windows<J: Sink>(crossed: u64, last: u64, err: &mut J) -> Result<(), Failed>
     ensures all { OnOk result (Appends (windows_line crossed last) (J.held err.old) (J.held err.new)) }

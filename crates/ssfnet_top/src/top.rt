@@ -1,14 +1,14 @@
 //! The top call: from words and files to the bytes written and the status.
-ghost use Rattle.std.specs.Prelude.{◌≡◌, ◌≤◌, ◌⊎◌, ◌++◌, ◌∷◌, ℕ, List, [], true, None, Some, option_map, map, string_bytes, IfOk, IfErr, IfSome, IsErrAnd, OnOk, OnErr};
+ghost use Rattle.std.specs.Prelude.{◌≡◌, ◌≤◌, ◌⊎◌, ◌++◌, ◌∷◌, ℕ, List, [], true, None, Some, option_map, map, string_bytes, IfOk, IfErr, IfSome, IsErrAnd, OnOk, OnErr, vec_len};
 ghost use Rattle.sim_base.specs.Outside.{Rose, Appends, AppendsPrefix};
 ghost use Rattle.ssfnet_top.specs.declared.refusal.Refusal.{Refusal as RefusalValue};
 ghost use Rattle.command_words.specs.Table.{MostFiles};
 ghost use Rattle.command_words.specs.Schedule.{is_schedule};
-ghost use Rattle.command_words.specs.Words.{asked_of_words, IsAlignInRange, IsInRange, IsLanded};
+ghost use Rattle.command_words.specs.Words.{asked_of_words, IsAlignInRange, IsInRange};
 ghost use Rattle.ssfnet_top.specs.Refusals.{status_of, line_of};
-ghost use Rattle.ssfnet_top.specs.Outcome.{asked_of, mode_of, windows_line, IsCommandDue, IsCommandMidway, IsOutcome, IsMidway, refusal_line};
+ghost use Rattle.ssfnet_top.specs.Outcome.{asked_of, mode_of, offline_of, windows_line, IsCommandDue, IsCommandMidway, IsAskedDue, IsAskedMidway, refusal_line};
 ghost use Rattle.ssfnet_top.specs.FilePlaces.{ArePlaced};
-ghost use Rattle.ssfnet_top.specs.Answering.{Answers, AnswersMidway, IsMade, IsUntold, told_text, IsReadFault, IsOfCommand, IsOfModel, IsTold, IsReportTold};
+ghost use Rattle.ssfnet_top.specs.Answering.{Answers, AnswersMidway, IsMade, IsOffline, IsUntold, told_text, IsReadFault, IsOfCommand, IsOfModel, IsTold, IsReportTold};
 ghost use Rattle.ssfnet_top.specs.Ending.{Ends, Concerns, HasMiddle, MayEndMidway, IsLineCut, IsReportCut, IsToldOf, HasGenerated, HasTold, Tells, WantsReport};
 
 use crate::Refusal;
@@ -19,7 +19,7 @@ use crate::model::{run_model, run_scheduled};
 use crate::planning::print_plan;
 use crate::printing::{print_resolved, print_tree};
 use crate::running::{Running, Told, Way};
-use crate::telling::{write_below, write_timeline, write_windows};
+use crate::telling::{write_below, write_stopped, write_timeline, write_windows};
 use alignment::Mode;
 use command_words::{Align, Command, Request, WordsFault, read_words};
 use dml_tree::Tree;
@@ -35,13 +35,17 @@ const WRITE_STATUS: u8 = 7;
 /// The status with which the program ends where a run has more events than its budget.
 const BUDGET_STATUS: u8 = 8;
 
-/// Answers a command: reads the files that the words name from the library, writes what is due on
+/// The status with which the program ends where a worker was stopped.
+const STOPPED_STATUS: u8 = 9;
+
+/// Answers a command on one thread: reads the files that the words name from the library, writes what is due on
 /// `out`, and then on `err` the report that is asked or the line of a refusal, and answers the status
-/// with which the program ends.
+/// with which the program ends. It always returns.
 ///
 /// The commands are `dml` (the printing of the files' tree), `check` (how many parts the model has),
 /// `plan` (the text of the model's plan), `seq` (the trace of the model's run by one event list, and
 /// its report), `step` (the same by steps of timelines on one thread, and the windows) and `gen` (the text of a generated model, for which no file is read).
+/// Words of `run` are refused as words of none.
 ///
 /// The words are those after the program's name. The statuses are 0 where the whole output was
 /// written, 1 where there was no memory, 2 for words that are not those of a command, 3 for a file
@@ -54,20 +58,20 @@ pub fn offline<L: Library, K: Sink, J: Sink>(
     out: &mut K,
     err: &mut J,
 ) -> u8
-    ensures outcome { IfSome (L.files library.old) (λ told. Ends told (map string_bytes words.now) result
+    ensures outcome { IfSome (L.files library.old) (λ told. Ends told (offline_of (asked_of_words (map string_bytes words.now))) result
         (record { read_faults = L.faults library.old; out_faults = K.faults out.old; err_faults = J.faults err.old; out = K.held out.old; err = J.held err.old })
         (record { read_faults = L.faults library.new; out_faults = K.faults out.new; err_faults = J.faults err.new; out = K.held out.new; err = J.held err.new })) }
-    ensures words_only { result ≡ 2 → asked_of_words (map string_bytes words.now) ≡ None }
-    ensures words_all { asked_of_words (map string_bytes words.now) ≡ None → (result ≡ 1) ⊎ ((result ≡ 2) ⊎ (result ≡ 7)) }
-    ensures refused { asked_of_words (map string_bytes words.now) ≡ None → Appends [] (K.held out.old) (K.held out.new) }
+    ensures words_only { result ≡ 2 → offline_of (asked_of_words (map string_bytes words.now)) ≡ None }
+    ensures words_all { offline_of (asked_of_words (map string_bytes words.now)) ≡ None → (result ≡ 1) ⊎ ((result ≡ 2) ⊎ (result ≡ 7)) }
+    ensures refused { offline_of (asked_of_words (map string_bytes words.now)) ≡ None → Appends [] (K.held out.old) (K.held out.new) }
     ensures read { result ≡ 3 → Rose (L.faults library.old) (L.faults library.new) }
     ensures write { result ≡ 7 → Rose (K.faults out.old) (K.faults out.new) ⊎ Rose (J.faults err.old) (J.faults err.new) }
     ensures nothing { 2 ≤ result → result ≤ 6 → Appends [] (K.held out.old) (K.held out.new) }
-    ensures quiet { result ≡ 0 → ¬ WantsReport (asked_of_words (map string_bytes words.now)) → Appends [] (J.held err.old) (J.held err.new) }
-    ensures reported { result ≡ 0 → HasTold (asked_of_words (map string_bytes words.now)) (J.held err.old) (J.held err.new) }
-    ensures generated { result ≡ 0 → HasGenerated (asked_of_words (map string_bytes words.now)) (K.held out.old) (K.held out.new) }
-    ensures line { (result ≡ 0) ⊎ (((result ≡ 7) × (IsLineCut (asked_of_words (map string_bytes words.now)) (J.faults err.old) (J.faults err.new) (J.held err.old) (J.held err.new)
-        ⊎ IsReportCut (asked_of_words (map string_bytes words.now)) (J.faults err.old) (J.faults err.new) (J.held err.old) (J.held err.new))) ⊎ ((r : RefusalValue) × (status_of r ≡ result) × Concerns (asked_of_words (map string_bytes words.now)) r × Appends (refusal_line r) (J.held err.old) (J.held err.new))) }
+    ensures quiet { result ≡ 0 → ¬ WantsReport (offline_of (asked_of_words (map string_bytes words.now))) → Appends [] (J.held err.old) (J.held err.new) }
+    ensures reported { result ≡ 0 → HasTold (offline_of (asked_of_words (map string_bytes words.now))) (J.held err.old) (J.held err.new) }
+    ensures generated { result ≡ 0 → HasGenerated (offline_of (asked_of_words (map string_bytes words.now))) (K.held out.old) (K.held out.new) }
+    ensures line { (result ≡ 0) ⊎ (((result ≡ 7) × (IsLineCut (offline_of (asked_of_words (map string_bytes words.now))) (J.faults err.old) (J.faults err.new) (J.held err.old) (J.held err.new)
+        ⊎ IsReportCut (offline_of (asked_of_words (map string_bytes words.now))) (J.faults err.old) (J.faults err.new) (J.held err.old) (J.held err.new))) ⊎ ((r : RefusalValue) × (status_of r ≡ result) × Concerns (offline_of (asked_of_words (map string_bytes words.now))) r × Appends (refusal_line r) (J.held err.old) (J.held err.new))) }
 {
     let mut told = Told {
         report: Vec::new(alloc),
@@ -89,23 +93,22 @@ fn answer<L: Library, K: Sink>(
     told: &mut Told,
 ) -> Result<(), Refusal>
     requires untold { IsUntold told.old }
-    ensures outcome { IfSome (L.files library.old) (λ files. Answers (IsOutcome files (map string_bytes words.now)) (told_text told.new) result (K.faults out.old) (K.faults out.new) (K.held out.old) (K.held out.new)
-        ⊎ (IsReadFault files (asked_of_words (map string_bytes words.now)) result (L.faults library.old) (L.faults library.new) (K.held out.old) (K.held out.new)
-        ⊎ AnswersMidway (IsMidway files (map string_bytes words.now)) result (K.faults out.old) (K.faults out.new) (K.held out.old) (K.held out.new))) }
-    ensures concerns { IfErr result (λ r. Concerns (asked_of_words (map string_bytes words.now)) r) }
-    ensures words { asked_of_words (map string_bytes words.now) ≡ None → IsErrAnd result (λ r. (r ≡ Refusal.Memory) ⊎ (r ≡ Refusal.Words)) }
-    ensures refused { asked_of_words (map string_bytes words.now) ≡ None → Appends [] (K.held out.old) (K.held out.new) }
+    ensures outcome { IfSome (L.files library.old) (λ files. Answers (IsAskedDue files (offline_of (asked_of_words (map string_bytes words.now)))) (told_text told.new) result (K.faults out.old) (K.faults out.new) (K.held out.old) (K.held out.new)
+        ⊎ (IsReadFault files (offline_of (asked_of_words (map string_bytes words.now))) result (L.faults library.old) (L.faults library.new) (K.held out.old) (K.held out.new)
+        ⊎ AnswersMidway (IsAskedMidway files (offline_of (asked_of_words (map string_bytes words.now)))) result (K.faults out.old) (K.faults out.new) (K.held out.old) (K.held out.new))) }
+    ensures concerns { IfErr result (λ r. Concerns (offline_of (asked_of_words (map string_bytes words.now))) r) }
+    ensures words { offline_of (asked_of_words (map string_bytes words.now)) ≡ None → IsErrAnd result (λ r. (r ≡ Refusal.Memory) ⊎ (r ≡ Refusal.Words)) }
+    ensures refused { offline_of (asked_of_words (map string_bytes words.now)) ≡ None → Appends [] (K.held out.old) (K.held out.new) }
     ensures read { IfErr result (λ r. status_of r ≡ 3 → Rose (L.faults library.old) (L.faults library.new)) }
     ensures write { IfErr result (λ r. r ≡ Refusal.Write → Rose (K.faults out.old) (K.faults out.new)) }
     ensures nothing { IfErr result (λ r. 2 ≤ status_of r → status_of r ≤ 6 → Appends [] (K.held out.old) (K.held out.new)) }
-    ensures unbegun { IfErr result (λ r. r ≡ Refusal.Memory → MayEndMidway (asked_of_words (map string_bytes words.now)) → Appends [] (K.held out.old) (K.held out.new)) }
-    ensures generated { OnOk result (HasGenerated (asked_of_words (map string_bytes words.now)) (K.held out.old) (K.held out.new)) }
-    ensures told { OnOk result (IsToldOf (asked_of_words (map string_bytes words.now)) (told_text told.new)) }
+    ensures unbegun { IfErr result (λ r. r ≡ Refusal.Memory → MayEndMidway (offline_of (asked_of_words (map string_bytes words.now))) → Appends [] (K.held out.old) (K.held out.new)) }
+    ensures generated { OnOk result (HasGenerated (offline_of (asked_of_words (map string_bytes words.now))) (K.held out.old) (K.held out.new)) }
+    ensures told { OnOk result (IsToldOf (offline_of (asked_of_words (map string_bytes words.now))) (told_text told.new)) }
 {
-    let request = match read_words(alloc, words) {
+    let request = match read_offline(alloc, words) {
         Ok(request) => request,
-        Err(WordsFault::Words) => return Err(Refusal::Words),
-        Err(WordsFault::Memory) => return Err(Refusal::Memory),
+        Err(refusal) => return Err(refusal),
     };
     match read_files(alloc, library, request.files.as_slice()) {
         Ok(tree) => act(alloc, &request, &tree, out, told),
@@ -113,8 +116,49 @@ fn answer<L: Library, K: Sink>(
     }
 }
 
-/// Does what is asked with the joined tree of the files, and tells the report that is asked.
-fn act<K: Sink>(
+/// Reads the words.
+///
+/// # Errors
+/// `Words` exactly where they are those of no command, and `Memory`.
+pub(crate) fn read_request(alloc: Global, words: &[String]) -> Result<Request, Refusal>
+    ensures asked { IfOk result (λ r. asked_of_words (map string_bytes words.now) ≡ Some (asked_of r)) }
+    ensures cause { IfErr result (λ r. (r ≡ Refusal.Memory) ⊎ ((r ≡ Refusal.Words) × (asked_of_words (map string_bytes words.now) ≡ None))) }
+    ensures refused { asked_of_words (map string_bytes words.now) ≡ None → IsErrAnd result (λ r. (r ≡ Refusal.Memory) ⊎ (r ≡ Refusal.Words)) }
+    ensures range { IfOk result (λ r. IsInRange r.command) }
+    ensures scheduled { IfOk result (λ r. (word : List ℕ) → option_map string_bytes r.schedule ≡ Some word → is_schedule word ≡ true) }
+    ensures files { IfOk result (λ r. vec_len r.files ≤ MostFiles) }
+{
+    match read_words(alloc, words) {
+        Ok(request) => Ok(request),
+        Err(WordsFault::Words) => Err(Refusal::Words),
+        Err(WordsFault::Memory) => Err(Refusal::Memory),
+    }
+}
+
+/// Reads the words of a command that is done on one thread.
+///
+/// # Errors
+/// `Words` exactly where they are those of no such command, and `Memory`.
+fn read_offline(alloc: Global, words: &[String]) -> Result<Request, Refusal>
+    ensures asked { IfOk result (λ r. offline_of (asked_of_words (map string_bytes words.now)) ≡ Some (asked_of r)) }
+    ensures cause { IfErr result (λ r. (r ≡ Refusal.Memory) ⊎ ((r ≡ Refusal.Words) × (offline_of (asked_of_words (map string_bytes words.now)) ≡ None))) }
+    ensures refused { offline_of (asked_of_words (map string_bytes words.now)) ≡ None → IsErrAnd result (λ r. (r ≡ Refusal.Memory) ⊎ (r ≡ Refusal.Words)) }
+    ensures offline { IfOk result (λ r. IsOffline r.command) }
+    ensures range { IfOk result (λ r. IsInRange r.command) }
+    ensures scheduled { IfOk result (λ r. (word : List ℕ) → option_map string_bytes r.schedule ≡ Some word → is_schedule word ≡ true) }
+    ensures files { IfOk result (λ r. vec_len r.files ≤ MostFiles) }
+{
+    match read_request(alloc, words) {
+        Ok(request) => match request.command {
+            Command::Run { .. } => Err(Refusal::Words),
+            _ => Ok(request),
+        },
+        Err(refusal) => Err(refusal),
+    }
+}
+
+/// Does what is asked on one thread with the joined tree of the files, and tells the report that is asked.
+pub(crate) fn act<K: Sink>(
     alloc: Global,
     request: &Request,
     tree: &Tree,
@@ -122,7 +166,7 @@ fn act<K: Sink>(
     told: &mut Told,
 ) -> Result<(), Refusal>
     requires range { IsInRange request.now.command }
-    requires landed { IsLanded request.now.command }
+    requires offline { IsOffline request.now.command }
     requires placed { ArePlaced (map string_bytes request.now.files.items) tree.now }
     requires untold { IsUntold told.old }
     requires spelt { (word : List ℕ) → option_map string_bytes request.now.schedule ≡ Some word → is_schedule word ≡ true }
@@ -172,7 +216,7 @@ fn act<K: Sink>(
 }
 
 /// The mode of an alignment.
-fn mode_of(align: Align) -> Mode
+pub(crate) fn mode_of(align: Align) -> Mode
     requires { IsAlignInRange align }
     ensures { result ≡ mode_of align }
 {
@@ -185,7 +229,7 @@ fn mode_of(align: Align) -> Mode
 }
 
 /// Writes what is told, where there is something, and answers the status with which the program ends.
-fn tell_report<J: Sink>(told: &Told, err: &mut J) -> u8
+pub(crate) fn tell_report<J: Sink>(told: &Told, err: &mut J) -> u8
     ensures { IsReportTold (told_text told.now) result (J.faults err.old) (J.faults err.new) (J.held err.old) (J.held err.new) }
 {
     match told.windows {
@@ -228,7 +272,7 @@ fn status_by(written: Result<(), Failed>, status: u8) -> u8
 }
 
 /// Writes the line of a refusal, and answers the status with which the program ends.
-fn tell<J: Sink>(alloc: Global, refusal: &Refusal, err: &mut J) -> u8
+pub(crate) fn tell<J: Sink>(alloc: Global, refusal: &Refusal, err: &mut J) -> u8
     ensures { IsTold refusal.now result (J.faults err.old) (J.faults err.new) (J.held err.old) (J.held err.new) }
 {
     match refusal {
@@ -243,6 +287,9 @@ fn tell<J: Sink>(alloc: Global, refusal: &Refusal, err: &mut J) -> u8
             write_timeline(*timeline, *budget, *below, err),
             BUDGET_STATUS,
         ),
+        Refusal::Stopped { worker, below } => {
+            status_by(write_stopped(*worker, *below, err), STOPPED_STATUS)
+        }
         _ => tell_cause(alloc, refusal, err),
     }
 }

@@ -32,7 +32,7 @@ const FEW: Option<Command> = Some(Command::Seq {
 });
 
 /// Words in the table, and words that are not.
-const CASES: [Case; 60] = [
+const CASES: [Case; 61] = [
     Case {
         words: "seq --until 10 m.dml",
         asked: TEN,
@@ -333,8 +333,25 @@ const CASES: [Case; 60] = [
     },
     Case {
         words: "run --until 10 m.dml",
-        asked: None,
-        files: "",
+        asked: Some(Command::Run {
+            until: 10,
+            budget: 1_000_000_000,
+            align: Align::Net,
+            threshold: 0,
+            workers: 4,
+        }),
+        files: "m.dml ",
+    },
+    Case {
+        words: "run a --workers 64 --report --align host --until 10 --threshold 4 b --budget 3",
+        asked: Some(Command::Run {
+            until: 10,
+            budget: 3,
+            align: Align::Host,
+            threshold: 4,
+            workers: 64,
+        }),
+        files: "a b ",
     },
     Case {
         words: "fly m.dml",

@@ -6,7 +6,7 @@ use Rattle.command_words.specs.declared.words.Request.{Request}
 use Rattle.command_words.specs.Parsed.{IsMatched}
 use Rattle.command_words.specs.Table.{Text, MostFiles, is_one_of}
 use Rattle.command_words.specs.Words.{AllFit, IsInRange, files_in}
-use Rattle.command_words.proofs.Asked.{asked_is, asked_none, asked_some, command_landed, command_range, files_few, if_all, if_both, landed_by, matched_fit}
+use Rattle.command_words.proofs.Asked.{asked_is, asked_none, asked_some, command_range, files_few, if_all, if_both, matched_fit}
 use Rattle.command_words.proofs.words.read_words.Goals as goal
 
 pub returns-in_default-clause-words : goal.returns-in_default-clause-words
@@ -35,18 +35,6 @@ returns-clause-range c =
     let fit : AllFit value = matched_fit c.in-Some.name words c.in-Some.ensures.in_table f m in
     let flat : Bool = is_one_of (drop 1 words) (codes "--flat") in
     IfOk-weaker c.request_of.result _ _ (λ (r : Request) command. subst IsInRange (sym (command flat m.flat)) (command_range value fit c.in-Some.name flat)) c.request_of.ensures.command
-
-pub returns-clause-landed : goal.returns-clause-landed
-returns-clause-landed c =
-    let words : List Text = map string_bytes c.args.words.now in
-    let f : Found = found_of c.in_ok-matches.matches in
-    let m : IsMatched f (drop 1 words) = c.in_ok-matches.ensures.matched in
-    let value : Text → Option Text = λ option. first_value f (drop 2 option) in
-    let flat : Bool = is_one_of (drop 1 words) (codes "--flat") in
-    IfOk-weaker c.request_of.result _ _
-    (λ (r : Request) command. landed_by c.in-Some.name value flat r.command (command flat m.flat)
-    (command_landed words c.in-Some.name (sym c.command_of.ensures.command ∙ c.in-Some.is) c.in-Some.ensures.in_table))
-    c.request_of.ensures.command
 
 pub returns-clause-scheduled : goal.returns-clause-scheduled
 returns-clause-scheduled c =

@@ -1,13 +1,23 @@
-use Rattle.std.proofs.Common.{sym, Ok}
+use Rattle.std.proofs.Common.{map, string_bytes}
+use Rattle.ssfnet_top.specs.Outcome.{resolved_of}
 use Rattle.ssfnet_top.specs.Answering.{told_text}
-use Rattle.ssfnet_top.proofs.Courses.{run_of_model}
-use Rattle.ssfnet_top.proofs.Weights.{few_tokens}
+use Rattle.ssfnet_top.proofs.Courses.{runs_hosts, runs_ring, runs_none}
 use Rattle.ssfnet_top.proofs.model.run_model.Goals as goal
 
-pub run_resolved-requires-clause-few : goal.run_resolved-requires-clause-few
-run_resolved-requires-clause-few g c = few_tokens _ c.in-Ok.ensures.small
+pub returns-in-Ok-Hosts-clause-due : goal.returns-in-Ok-Hosts-clause-due
+returns-in-Ok-Hosts-clause-due g c =
+    let here = c.in-Ok-Hosts in
+    let call = c.simulate in
+    runs_hosts c.args.running.now (resolved_of (map string_bytes c.args.names.now) c.args.tree.now) (told_text call.new.told) call.result (g.K.Sink.faults c.args.out.now) (g.K.Sink.faults call.new.out) (g.K.Sink.held c.args.out.now) (g.K.Sink.held call.new.out)
+    here.field-0 here.built here.field-0-is here.ensures.planned call.ensures.due
 
-pub returns-in-Ok-clause-due : goal.returns-in-Ok-clause-due
-returns-in-Ok-clause-due g c =
-    run_of_model c.args.running.now (Ok c.in-Ok.resolved) _ (told_text c.run_resolved.new.told) c.run_resolved.result
-    (g.K.Sink.faults c.args.out.now) (g.K.Sink.faults c.run_resolved.new.out) (g.K.Sink.held c.args.out.now) (g.K.Sink.held c.run_resolved.new.out) (sym c.in-Ok.ensures.resolved) c.run_resolved.ensures.due
+pub returns-in-Ok-Ring-clause-due : goal.returns-in-Ok-Ring-clause-due
+returns-in-Ok-Ring-clause-due g c =
+    let here = c.in-Ok-Ring in
+    let call = c.simulate-in-Ok-Ring in
+    runs_ring c.args.running.now (resolved_of (map string_bytes c.args.names.now) c.args.tree.now) (told_text call.new.told) call.result (g.K.Sink.faults c.args.out.now) (g.K.Sink.faults call.new.out) (g.K.Sink.held c.args.out.now) (g.K.Sink.held call.new.out)
+    here.field-0 here.built here.field-0-is here.ensures.planned call.ensures.due
+
+pub returns-in-Err-clause-due : goal.returns-in-Err-clause-due
+returns-in-Err-clause-due g c =
+    runs_none c.args.running.now (resolved_of (map string_bytes c.args.names.now) c.args.tree.now) (told_text c.args.told.now) c.in-Err.refusal (g.K.Sink.faults c.args.out.now) (g.K.Sink.held c.args.out.now) c.in-Err.ensures.fault

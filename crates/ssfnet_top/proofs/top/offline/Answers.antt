@@ -2,6 +2,7 @@ use Rattle.std.proofs.Common.{map, string_bytes}
 use Rattle.ssfnet_top.specs.Answering.{told_text}
 use Rattle.ssfnet_top.specs.Ending.{Outside}
 use Rattle.command_words.specs.Words.{asked_of_words}
+use Rattle.ssfnet_top.specs.Outcome.{offline_of}
 use Rattle.ssfnet_top.proofs.Endings.{told_refused, told_line, told_well, report_line, report_quiet, report_told}
 use Rattle.ssfnet_top.proofs.top.offline.Goals as goal
 
@@ -22,7 +23,7 @@ returns-in-Ok-clause-outcome g c =
       err = g.J.Sink.held c.tell_report.new.err;
     } in
     let report = (told_text c.answer.new.told) in
-    told_well (g.L.Library.files c.args.library.now) (map string_bytes c.args.words.now) before after report tt c.tell_report.result c.in-Ok.ensures.outcome c.in-Ok.ensures.told
+    told_well (g.L.Library.files c.args.library.now) (offline_of (asked_of_words (map string_bytes c.args.words.now))) before after report tt c.tell_report.result c.in-Ok.ensures.outcome c.in-Ok.ensures.told
     c.tell_report.ensures
 
 pub returns-clause-outcome : goal.returns-clause-outcome
@@ -41,27 +42,27 @@ returns-clause-outcome g c =
       out = g.K.Sink.held c.answer.new.out;
       err = g.J.Sink.held c.tell.new.err;
     } in
-    told_refused (g.L.Library.files c.args.library.now) (map string_bytes c.args.words.now) before after (told_text c.answer.new.told) c.in-Err.refusal c.tell.result c.in-Err.ensures.outcome c.in-Err.ensures.concerns c.in-Err.ensures.unbegun c.in-Err.ensures.nothing c.tell.ensures
+    told_refused (g.L.Library.files c.args.library.now) (offline_of (asked_of_words (map string_bytes c.args.words.now))) before after (told_text c.answer.new.told) c.in-Err.refusal c.tell.result c.in-Err.ensures.outcome c.in-Err.ensures.concerns c.in-Err.ensures.unbegun c.in-Err.ensures.nothing c.tell.ensures
 
 pub returns-clause-line : goal.returns-clause-line
 returns-clause-line g c =
     told_line c.in-Err.refusal c.tell.result (g.J.Sink.faults c.args.err.now) (g.J.Sink.faults c.tell.new.err) (g.J.Sink.held c.args.err.now) (g.J.Sink.held c.tell.new.err)
-    (asked_of_words (map string_bytes c.args.words.now)) c.tell.ensures c.in-Err.ensures.concerns
+    (offline_of (asked_of_words (map string_bytes c.args.words.now))) c.tell.ensures c.in-Err.ensures.concerns
 
 pub returns-in-Ok-clause-line : goal.returns-in-Ok-clause-line
 returns-in-Ok-clause-line g c =
     let report = (told_text c.answer.new.told) in
-    report_line (asked_of_words (map string_bytes c.args.words.now)) report c.tell_report.result _ _ _ _ c.in-Ok.ensures.told
+    report_line (offline_of (asked_of_words (map string_bytes c.args.words.now))) report c.tell_report.result _ _ _ _ c.in-Ok.ensures.told
     c.tell_report.ensures
 
 pub returns-in-Ok-clause-quiet : goal.returns-in-Ok-clause-quiet
 returns-in-Ok-clause-quiet g c =
     let report = (told_text c.answer.new.told) in
-    report_quiet (asked_of_words (map string_bytes c.args.words.now)) report c.tell_report.result _ _ _ _ c.in-Ok.ensures.told
+    report_quiet (offline_of (asked_of_words (map string_bytes c.args.words.now))) report c.tell_report.result _ _ _ _ c.in-Ok.ensures.told
     c.tell_report.ensures
 
 pub returns-in-Ok-clause-reported : goal.returns-in-Ok-clause-reported
 returns-in-Ok-clause-reported g c =
     let report = (told_text c.answer.new.told) in
-    report_told (asked_of_words (map string_bytes c.args.words.now)) report c.tell_report.result _ _ _ _ c.in-Ok.ensures.told
+    report_told (offline_of (asked_of_words (map string_bytes c.args.words.now))) report c.tell_report.result _ _ _ _ c.in-Ok.ensures.told
     c.tell_report.ensures
