@@ -1,5 +1,5 @@
 use Rattle.std.proofs.Common.{◌≡◌, vec_len}
 use Rattle.command_tests.proofs.workers.stop_lanes.Given as goal
 
-abbrev pub invariant-loop-_place : goal.invariant-loop-_place
-invariant-loop-_place l = vec_len l.lanes ≡ l._place
+abbrev pub invariant-loop-place : goal.invariant-loop-place
+invariant-loop-place l = vec_len l.lanes ≡ l._place
