@@ -5,4 +5,12 @@
 #[cfg(test)]
 mod commands;
 #[cfg(test)]
+mod gates;
+#[cfg(test)]
+mod generated;
+#[cfg(test)]
+mod meeting;
+#[cfg(test)]
+mod stopping;
+#[cfg(test)]
 mod workers;

@@ -10,62 +10,73 @@ use std::sync::Wait;
 use std::test::Fail;
 use std::thread::Threads;
 
+/// Room for all that is written on `out`.
+pub(crate) const ROOM: usize = 1_000_000;
+
 const ROUND: &str = "ring [ nodes 1 token 0 hop [ from 0 to 0 delay 0 ] ]";
 
-/// 64 lanes with open gates.
-fn open_lanes(alloc: Global) -> Result<Vec<Lane<OpenGate>>, AllocError>
+/// 64 lanes with gates that this closure makes.
+pub(crate) fn lanes_of<G: Drop, F: Fn() -> G>(
+    alloc: Global,
+    make_gate: F,
+) -> Result<Vec<Lane<G>>, AllocError>
+    requires { F.IsAlwaysCallable make_gate }
     ensures { IfOk result (λ lanes. vec_len lanes ≡ 64) }
 {
     let mut lanes = Vec::new(alloc);
     for _place in 0..64u64 {
-        lanes.push(Lane::new(OpenGate::new()))?;
+        lanes.push(Lane::new(make_gate()))?;
     }
     Ok(lanes)
 }
 
 /// 64 lanes with gates that shut after so many questions.
-fn stop_lanes(alloc: Global, after: u64) -> Result<Vec<Lane<StopGate>>, AllocError>
+pub(crate) fn stop_lanes(alloc: Global, after: u64) -> Result<Vec<Lane<StopGate>>, AllocError>
     ensures { IfOk result (λ lanes. vec_len lanes ≡ 64) }
 {
-    let mut lanes = Vec::new(alloc);
-    for _place in 0..64u64 {
-        lanes.push(Lane::new(StopGate::new(after)))?;
-    }
-    Ok(lanes)
+    lanes_of(alloc, || StopGate::new(after))
 }
 
 /// What a call is to answer: its status, and what it writes.
 #[derive(Clone, Copy)]
-struct Due {
-    status: u8,
-    out: &'static [u8],
-    err: &'static [u8],
+pub(crate) struct Due<'a> {
+    pub(crate) status: u8,
+    pub(crate) out: &'a [u8],
+    pub(crate) err: &'a [u8],
 }
 
-/// Runs the command over the text of the file `m.dml` with these lanes, and looks at what it writes.
-fn check_run<R: Threads + Wait + Sync + Abort + AllocGlobal, G: Gate + Send>(
+/// Runs the command over the text of the file `m.dml` with these lanes and sinks, and tells its status.
+pub(crate) fn run_into<R: Threads + Wait + Sync + Abort + AllocGlobal, G: Gate + Send>(
     rt: &R,
     words: &str,
     model: &str,
     lanes: &mut [Lane<G>],
-    due: &Due,
-) -> Result<(), Fail>
+    out: &mut MemorySink,
+    err: &mut MemorySink,
+) -> Result<u8, Fail>
     requires { length lanes.old ≡ 64 }
+    ensures { length lanes.new ≡ 64 }
 {
     let alloc = rt.alloc();
     let words = split_words(alloc, words)?;
     let mut library = library_of(alloc, model)?;
-    let mut out = MemorySink::new(alloc, 4096, 8192, Vec::new(alloc))?;
-    let mut err = MemorySink::new(alloc, 64, 4096, Vec::new(alloc))?;
-    let status = ssfnet(
-        rt,
-        alloc,
-        words.as_slice(),
-        &mut library,
-        &mut out,
-        &mut err,
-        lanes,
-    );
+    Ok(ssfnet(rt, alloc, words.as_slice(), &mut library, out, err, lanes))
+}
+
+/// Runs the command over the text of the file `m.dml` with these lanes, and looks at what it writes.
+pub(crate) fn check_run<R: Threads + Wait + Sync + Abort + AllocGlobal, G: Gate + Send>(
+    rt: &R,
+    words: &str,
+    model: &str,
+    lanes: &mut [Lane<G>],
+    due: &Due<'_>,
+) -> Result<(), Fail>
+    requires { length lanes.old ≡ 64 }
+    ensures { length lanes.new ≡ 64 }
+{
+    let mut out = MemorySink::new(rt.alloc(), 4096, ROOM, Vec::new(rt.alloc()))?;
+    let mut err = MemorySink::new(rt.alloc(), 64, 4096, Vec::new(rt.alloc()))?;
+    let status = run_into(rt, words, model, lanes, &mut out, &mut err)?;
     assert_eq!(rt; status, due.status);
     assert!(rt; out.bytes() == due.out);
     assert!(rt; err.bytes() == due.err);
@@ -73,13 +84,13 @@ fn check_run<R: Threads + Wait + Sync + Abort + AllocGlobal, G: Gate + Send>(
 }
 
 /// Runs the command with open gates.
-fn check_open(
+pub(crate) fn check_open(
     rt: &(impl Threads + Wait + Sync + Abort + AllocGlobal),
     words: &str,
     model: &str,
-    due: &Due,
+    due: &Due<'_>,
 ) -> Result<(), Fail> {
-    let mut lanes = open_lanes(rt.alloc())?;
+    let mut lanes = lanes_of(rt.alloc(), || OpenGate::new())?;
     check_run(rt, words, model, lanes.as_mut_slice(), due)
 }
 
