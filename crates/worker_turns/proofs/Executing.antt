@@ -3,7 +3,7 @@ use Rattle.std.proofs.Common.{◌≡◌, ℕ, suc, ◌+◌, ◌≤◌, sym, ap, 
 use Rattle.ssf_model.specs.Reaction.{Reaction, Validity}
 use Rattle.turn_table.specs.declared.pass.Held.{Held}
 use Rattle.turn_table.specs.declared.view.View.{View}
-use Rattle.turn_table.specs.Views.{held, note, mark, writing}
+use Rattle.turn_table.specs.Views.{note, mark, writing}
 use Rattle.timeline.specs.View.{TimelineOf}
 use Rattle.core_rules.specs.Cores.{CoreView, IsCoreOfRun}
 use Rattle.share_rules.specs.Places.{done_word}

@@ -6,7 +6,7 @@ use Rattle.ssf_model.specs.Deliver.{IsModest}
 use Rattle.turn_table.specs.declared.pass.Held.{Held}
 use Rattle.turn_table.specs.declared.view.View.{View}
 use Rattle.turn_table.specs.Changes.{put}
-use Rattle.turn_table.specs.Views.{held, note, mark, writing}
+use Rattle.turn_table.specs.Views.{note, mark, writing}
 use Rattle.plan_shares.specs.declared.crosses.CrossEnd.{CrossEnd}
 use Rattle.timeline.specs.Lines.{posted_of}
 use Rattle.appointments.specs.Mails.{Mails, mail_at}

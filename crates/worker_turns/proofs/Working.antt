@@ -10,8 +10,9 @@ use Rattle.sync_steps.specs.declared.steps.Stepped.TheVariants.{NotEnabled}
 use Rattle.worker_hands.specs.declared.hand.Answer.{Answer}
 use Rattle.worker_hands.specs.declared.hand.Answer.TheVariants.{Done}
 use Rattle.worker_hands.specs.declared.hand.Made.{Made}
-use Rattle.worker_hands.specs.Hands.{HandView, IsAsked}
+use Rattle.worker_hands.specs.Hands.{HandView, IsAsked, IsToldOn}
 use Rattle.worker_hands.specs.Asked.{first_or, is_step, AreOf, runs_in, last_answer, WasNotEnabled, IsUncrossed}
+use Rattle.worker_hands.proofs.Asking.{told_then}
 use Rattle.worker_turns.specs.Working.{HasLostMore, IsWorked}
 use Rattle.worker_turns.specs.Turning.{IsPost, IsMeeting, AreAll, AreRuns, AreMeetings, AreTakes, ArePosts, AreMeetingsOr}
 use Rattle.worker_turns.proofs.Values.{more_none, more_then, lost_between}
@@ -195,3 +196,13 @@ asked_two h0 h1 h2 one two = asked_then h0 h1 h2 one two (λ made. Unit {0}) (λ
 
 pub asked_three : (h0 h1 h2 h3 : HandView) (one two three : List Made → Type 0) → IsAsked h0 h1 one → IsAsked h1 h2 two → IsAsked h2 h3 three → IsAsked h0 h3 (λ made. Unit {0})
 asked_three h0 h1 h2 h3 one two three a b c = asked_two h0 h2 h3 (λ made. Unit {0}) three (asked_two h0 h1 h2 one two a b) c
+
+-- what three and more calls told, one after the other
+pub told_three : (h0 h1 h2 h3 : HandView) → IsToldOn h0 h1 → IsToldOn h1 h2 → IsToldOn h2 h3 → IsToldOn h0 h3
+told_three h0 h1 h2 h3 a b c = told_then h0 h2 h3 (told_then h0 h1 h2 a b) c
+
+pub told_four : (h0 h1 h2 h3 h4 : HandView) → IsToldOn h0 h1 → IsToldOn h1 h2 → IsToldOn h2 h3 → IsToldOn h3 h4 → IsToldOn h0 h4
+told_four h0 h1 h2 h3 h4 a b c d = told_then h0 h3 h4 (told_three h0 h1 h2 h3 a b c) d
+
+pub told_five : (h0 h1 h2 h3 h4 h5 : HandView) → IsToldOn h0 h1 → IsToldOn h1 h2 → IsToldOn h2 h3 → IsToldOn h3 h4 → IsToldOn h4 h5 → IsToldOn h0 h5
+told_five h0 h1 h2 h3 h4 h5 a b c d e = told_then h0 h4 h5 (told_four h0 h1 h2 h3 h4 a b c d) e

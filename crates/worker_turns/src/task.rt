@@ -10,7 +10,7 @@ ghost use Rattle.share_turns.specs.Shares.{IsTimeline};
 ghost use Rattle.share_turns.specs.Tables.{IsTableOf};
 ghost use Rattle.share_turns.specs.Holdings.{HasTimeline, HasLostNone};
 ghost use Rattle.worker_hands.specs.declared.hand.Answer.TheVariants.{Executed};
-ghost use Rattle.worker_hands.specs.Hands.{IsAsked};
+ghost use Rattle.worker_hands.specs.Hands.{IsAsked, IsToldOn};
 ghost use Rattle.worker_hands.specs.Asked.{AreOf, runs_in, last_answer, WasNotEnabled, IsExhausted, IsUncrossed};
 ghost use Rattle.worker_turns.specs.Working.{HasLostMore};
 ghost use Rattle.worker_turns.specs.Turning.{AreRuns, AreMeetings, AreTakes, ArePostsOn, ArePostsAt, ArePosts, AreMeetingsOr, AreAtBarrier, CanTake, HasTakenOn, CanExecute, HasExecutedOn, CanPost, HasPostedOn, HasEnteredOn, CanReport, HasReportedOn, CanCross, HasCrossedOn};
@@ -45,6 +45,7 @@ pub(crate) fn take<B: Behaviour>(
     ensures pass { IsPassOf ⟦<Share<B> as Tenant>⟧ table.now.turns.now pass.new }
     ensures has { HasTimeline B.valid B.carried B.reaction (key_of table.now.turns.now).value (view_of pass.new) table.now.number own.new }
     ensures tries { HasLostMore (key_of table.now.turns.now).value (view_of pass.old) (view_of pass.new) }
+    ensures told { IsToldOn hand.old hand.new }
     ensures done { OnOk result (IsAsked hand.old hand.new (AreTakes (key_of table.now.turns.now).value table.now.number (view_of pass.old) (view_of pass.new))) }
 {
     let Some(mut mail) = table.bring_mail(pass, table.number) else {
@@ -73,6 +74,7 @@ pub(crate) fn execute<B: Behaviour>(
     ensures pass { IsPassOf ⟦<Share<B> as Tenant>⟧ table.now.turns.now pass.new }
     ensures has { HasTimeline B.valid B.carried B.reaction (key_of table.now.turns.now).value (view_of pass.new) table.now.number own.new }
     ensures tries { HasLostNone (view_of pass.old) (view_of pass.new) }
+    ensures told { IsToldOn hand.old hand.new }
     ensures left { left.new ≤ left.old }
     ensures done { OnOk result (IsAsked hand.old hand.new (AreRuns left.old left.new table.now.number)) }
     ensures over { result ≡ Err Halt.Over → IsAsked hand.old hand.new (λ made. last_answer (Execute table.now.number) made ≡ Some (Executed WasOver)) }
@@ -96,6 +98,7 @@ pub(crate) fn post<B: Behaviour>(
     ensures pass { IsPassOf ⟦<Share<B> as Tenant>⟧ table.now.turns.now pass.new }
     ensures has { HasTimeline B.valid B.carried B.reaction (key_of table.now.turns.now).value (view_of pass.new) table.now.number own.new }
     ensures tries { HasLostMore (key_of table.now.turns.now).value (view_of pass.old) (view_of pass.new) }
+    ensures told { IsToldOn hand.old hand.new }
     ensures done { OnOk result (IsAsked hand.old hand.new (ArePosts (key_of table.now.turns.now).value (length (key_of table.now.turns.now).value.ends) table.now.number (view_of pass.old) (view_of pass.new))) }
 {
     for (place, end) in table.ends.iter().enumerate() {
@@ -121,6 +124,7 @@ fn post_at<B: Behaviour>(
     ensures pass { IsPassOf ⟦<Share<B> as Tenant>⟧ table.now.turns.now pass.new }
     ensures has { HasTimeline B.valid B.carried B.reaction (key_of table.now.turns.now).value (view_of pass.new) table.now.number own.new }
     ensures tries { HasLostMore (key_of table.now.turns.now).value (view_of pass.old) (view_of pass.new) }
+    ensures told { IsToldOn hand.old hand.new }
     ensures done { OnOk result (IsAsked hand.old hand.new (ArePostsAt (key_of table.now.turns.now).value place table.now.number (view_of pass.old) (view_of pass.new))) }
 {
     if end.sender != table.number {
@@ -147,6 +151,7 @@ fn post_on<B: Behaviour>(
     ensures pass { IsPassOf ⟦<Share<B> as Tenant>⟧ table.now.turns.now pass.new }
     ensures has { HasTimeline B.valid B.carried B.reaction (key_of table.now.turns.now).value (view_of pass.new) table.now.number own.new }
     ensures tries { HasLostMore (key_of table.now.turns.now).value (view_of pass.old) (view_of pass.new) }
+    ensures told { IsToldOn hand.old hand.new }
     ensures done { OnOk result (IsAsked hand.old hand.new (ArePostsOn (key_of table.now.turns.now).value table.now.number end.now (view_of pass.old) (view_of pass.new))) }
 {
     let Some(mut mail) = table.bring_mail(pass, end.receiver) else {
@@ -174,6 +179,7 @@ pub(crate) fn meet<B: Behaviour>(
     ensures pass { IsPassOf ⟦<Share<B> as Tenant>⟧ table.now.turns.now pass.new }
     ensures has { HasTimeline B.valid B.carried B.reaction (key_of table.now.turns.now).value (view_of pass.new) table.now.number own.new }
     ensures tries { HasLostMore (key_of table.now.turns.now).value (view_of pass.old) (view_of pass.new) }
+    ensures told { IsToldOn hand.old hand.new }
     ensures done { OnOk result (IsAsked hand.old hand.new (AreMeetingsOr (key_of table.now.turns.now).value table.now.number (view_of pass.old) (view_of pass.new))) }
 {
     let Some(mut barrier) = table.bring_barrier(pass) else {
@@ -201,6 +207,7 @@ fn meet_at<B: Behaviour>(
     ensures pass { IsPassOf ⟦<Share<B> as Tenant>⟧ table.now.turns.now pass.new }
     ensures at { AreAtBarrier B.valid B.carried B.reaction (key_of table.now.turns.now).value (view_of pass.new) table.now.number own.new barrier.new }
     ensures tries { HasLostNone (view_of pass.old) (view_of pass.new) }
+    ensures told { IsToldOn hand.old hand.new }
     ensures done { OnOk result (IsAsked hand.old hand.new (AreMeetings table.now.number)) }
 {
     if meet_once(alloc, table, pass, hand, own, barrier)? {
@@ -225,6 +232,7 @@ fn meet_once<B: Behaviour>(
     ensures pass { IsPassOf ⟦<Share<B> as Tenant>⟧ table.now.turns.now pass.new }
     ensures at { AreAtBarrier B.valid B.carried B.reaction (key_of table.now.turns.now).value (view_of pass.new) table.now.number own.new barrier.new }
     ensures tries { HasLostNone (view_of pass.old) (view_of pass.new) }
+    ensures told { IsToldOn hand.old hand.new }
     ensures done { OnOk result (IsAsked hand.old hand.new (AreMeetings table.now.number)) }
 {
     enter_share(hand, table.number, own.value(), barrier.value().barrier());
@@ -250,6 +258,7 @@ fn take_shares<B: Behaviour>(
 ) -> Result<(), Memory>
     requires { CanTake B.valid B.carried B.reaction number own.old mail.old }
     ensures taken { HasTakenOn B.valid B.carried B.reaction number own.old own.new mail.old mail.new }
+    ensures told { IsToldOn hand.old hand.new }
     ensures asked { IsAsked hand.old hand.new (λ made. AreOf (Take number) made × (runs_in made ≡ 0)) }
     ensures done { OnOk result (IsAsked hand.old hand.new (WasNotEnabled (Take number))) }
 {
@@ -272,6 +281,7 @@ fn execute_share<B: Behaviour>(
     requires { CanExecute B.valid B.carried B.reaction behaviour.now number own.old }
     ensures executed { HasExecutedOn B.valid B.carried B.reaction behaviour.now number own.old own.new }
     ensures left { left.new ≤ left.old }
+    ensures told { IsToldOn hand.old hand.new }
     ensures asked { IsAsked hand.old hand.new (λ made. AreOf (Execute number) made × (runs_in made + left.new ≡ left.old)) }
     ensures done { OnOk result (IsAsked hand.old hand.new (IsExhausted left.new number)) }
     ensures over { result ≡ Err Halt.Over → IsAsked hand.old hand.new (λ made. last_answer (Execute number) made ≡ Some (Executed WasOver)) }
@@ -291,6 +301,7 @@ fn post_shares<B: Behaviour>(
 ) -> Result<(), Memory>
     requires { CanPost B.valid B.carried B.reaction number channel own.old mail.old }
     ensures posted { HasPostedOn B.valid B.carried B.reaction number channel own.old own.new mail.old mail.new }
+    ensures told { IsToldOn hand.old hand.new }
     ensures asked { IsAsked hand.old hand.new (λ made. AreOf (Post number channel) made × (runs_in made ≡ 0)) }
     ensures done { OnOk result (IsAsked hand.old hand.new (WasNotEnabled (Post number channel))) }
 {
@@ -306,6 +317,7 @@ fn post_shares<B: Behaviour>(
 fn enter_share<B: Behaviour>(hand: &mut Hand, number: u32, own: &mut Share<B>, barrier: &Barrier)
     requires { IsTimeline own.old }
     ensures entered { HasEnteredOn B.valid B.carried B.reaction number own.old own.new barrier.now }
+    ensures told { IsToldOn hand.old hand.new }
     ensures asked { IsAsked hand.old hand.new (λ made. AreOf (Enter number) made × (runs_in made ≡ 0)) }
     ensures done { IsAsked hand.old hand.new (WasNotEnabled (Enter number)) }
 {
@@ -324,6 +336,7 @@ fn report_share<B: Behaviour>(
 ) -> Result<(), Memory>
     requires { CanReport B.valid B.carried B.reaction number timeline.now barrier.old }
     ensures reported { HasReportedOn B.valid B.carried B.reaction number timeline.now barrier.old barrier.new }
+    ensures told { IsToldOn hand.old hand.new }
     ensures asked { IsAsked hand.old hand.new (λ made. AreOf (Report number) made × (runs_in made ≡ 0)) }
     ensures done { OnOk result (IsAsked hand.old hand.new (WasNotEnabled (Report number))) }
 {
@@ -336,6 +349,7 @@ fn report_share<B: Behaviour>(
 fn cross_share<B: Behaviour>(hand: &mut Hand, barrier: &mut Share<B>) -> bool
     requires { CanCross B.valid B.carried B.reaction barrier.old }
     ensures crossed { HasCrossedOn B.valid B.carried B.reaction result barrier.old barrier.new }
+    ensures told { IsToldOn hand.old hand.new }
     ensures asked { IsAsked hand.old hand.new (λ made. AreOf Cross made × (runs_in made ≡ 0)) }
     ensures done { IsAsked hand.old hand.new (λ made. IsUncrossed (last_answer Cross made)) }
 {

@@ -11,7 +11,7 @@ ghost use Rattle.share_rules.specs.Places.{count_of, barrier_place, round_word};
 ghost use Rattle.share_turns.specs.Tables.{IsTableOf};
 ghost use Rattle.share_turns.specs.Holdings.{HasTimeline};
 ghost use Rattle.worker_hands.specs.declared.hand.Answer.TheVariants.{Executed};
-ghost use Rattle.worker_hands.specs.Hands.{IsAsked};
+ghost use Rattle.worker_hands.specs.Hands.{IsAsked, IsToldOn};
 ghost use Rattle.worker_hands.specs.Asked.{last_answer};
 ghost use Rattle.worker_turns.specs.Passes.{pass_of};
 ghost use Rattle.worker_turns.specs.Working.{HasLost, HasLostMore, IsWorked};
@@ -62,7 +62,7 @@ impl Worker {
     ghost use Rattle.share_turns.specs.Tables.{IsTableOf};
     ghost use Rattle.share_turns.specs.Holdings.{HasTimeline};
     ghost use Rattle.worker_hands.specs.declared.hand.Answer.TheVariants.{Executed};
-    ghost use Rattle.worker_hands.specs.Hands.{IsAsked};
+    ghost use Rattle.worker_hands.specs.Hands.{IsAsked, IsToldOn};
     ghost use Rattle.worker_hands.specs.Asked.{last_answer};
     ghost use Rattle.worker_turns.specs.Passes.{pass_of};
     ghost use Rattle.worker_turns.specs.Working.{HasLost, HasLostMore, IsWorked};
@@ -123,6 +123,7 @@ impl Worker {
     /// meets the barrier, and posts, where the turns of those parts are free, and gives every turn back.
     ///
     /// `Nothing` comes exactly where the pass's count of lost tries of the timeline rose, `Stopped` only where the gate's count of stops did.
+    /// The hand goes on telling its list while it has room.
     pub fn turn<B: Behaviour + Sync, G: Gate>(
         &mut self,
         alloc: Global,
@@ -146,6 +147,7 @@ impl Worker {
         ensures nothing { (result ≡ Turned.Nothing) ↔ HasLost (view_of (pass_of self.old)) (view_of (pass_of self.new)) timeline }
         ensures stopped { result ≡ Turned.Stopped → Rose (G.stops gate.old) (G.stops gate.new) }
         ensures never_falls { G.stops gate.old ≤ G.stops gate.new }
+        ensures told { IsToldOn hand.old hand.new }
         ensures over { result ≡ Turned.Over → IsAsked hand.old hand.new (λ made. last_answer (Execute timeline) made ≡ Some (Executed WasOver)) }
         ensures worked { result ≡ Turned.Worked → IsAsked hand.old hand.new (IsWorked (key_of turns.now).value MOST_EXECUTED timeline (view_of (pass_of self.old)) (view_of (pass_of self.new))) }
     {
@@ -188,6 +190,7 @@ impl Worker {
         ensures nothing { result ≡ Turned.Nothing → ⊥ }
         ensures stopped { result ≡ Turned.Stopped → Rose (G.stops gate.old) (G.stops gate.new) }
         ensures never_falls { G.stops gate.old ≤ G.stops gate.new }
+        ensures told { IsToldOn hand.old hand.new }
         ensures over { result ≡ Turned.Over → IsAsked hand.old hand.new (λ made. last_answer (Execute table.now.number) made ≡ Some (Executed WasOver)) }
         ensures worked { result ≡ Turned.Worked → IsAsked hand.old hand.new (IsWorked (key_of table.now.turns.now).value MOST_EXECUTED table.now.number (view_of (pass_of self.old)) (view_of (pass_of self.new))) }
     {
@@ -217,6 +220,7 @@ impl Worker {
         ensures tries { HasLostMore (key_of table.now.turns.now).value (view_of (pass_of self.old)) (view_of (pass_of self.new)) }
         ensures nothing { result ≡ Turned.Nothing → ⊥ }
         ensures stopped { result ≡ Turned.Stopped → ⊥ }
+        ensures told { IsToldOn hand.old hand.new }
         ensures over { result ≡ Turned.Over → IsAsked hand.old hand.new (λ made. last_answer (Execute table.now.number) made ≡ Some (Executed WasOver)) }
         ensures worked { result ≡ Turned.Worked → IsAsked hand.old hand.new (IsWorked (key_of table.now.turns.now).value MOST_EXECUTED table.now.number (view_of (pass_of self.old)) (view_of (pass_of self.new))) }
     {
@@ -245,6 +249,7 @@ impl Worker {
         ensures has { HasTimeline B.valid B.carried B.reaction (key_of table.now.turns.now).value (view_of (pass_of self.new)) table.now.number own.new }
         ensures tries { HasLostMore (key_of table.now.turns.now).value (view_of (pass_of self.old)) (view_of (pass_of self.new)) }
         ensures done { OnOk result (IsAsked hand.old hand.new (IsWorked (key_of table.now.turns.now).value MOST_EXECUTED table.now.number (view_of (pass_of self.old)) (view_of (pass_of self.new)))) }
+        ensures told { IsToldOn hand.old hand.new }
         ensures over { result ≡ Err Halt.Over → IsAsked hand.old hand.new (λ made. last_answer (Execute table.now.number) made ≡ Some (Executed WasOver)) }
     {
         let mut left = MOST_EXECUTED;

@@ -1,8 +1,9 @@
 use Rattle.std.proofs.Common.{refl, sym, ◌∙◌}
 use Rattle.turn_table.specs.Passes.{view_of}
 use Rattle.turn_table.specs.Turned.{key_of}
+use Rattle.worker_hands.proofs.Asking.{told_then}
 use Rattle.worker_turns.proofs.Meeting.{may_report, at_reported, may_cross, at_same, round_rises, round_kept, at_crossed}
-use Rattle.worker_turns.proofs.Working.{meetings_asked}
+use Rattle.worker_turns.proofs.Working.{meetings_asked, told_three}
 use Rattle.worker_turns.proofs.task.meet_once.Goals as goal
 
 pub report_share-requires-after_bounds : goal.report_share-requires-after_bounds
@@ -83,3 +84,12 @@ pub returns-else-crossed-clause-done : goal.returns-else-crossed-clause-done
 returns-else-crossed-clause-done g c =
     meetings_asked c.args.table.now.number c.args.hand.now c.enter_share.new.hand c.report_share.new.hand c.cross_share-crossed.new.hand c.enter_share.ensures.asked c.enter_share.ensures.done
     c.report_share.ensures.asked c.in_ok-report_share.ensures.done c.cross_share-crossed.ensures.asked c.cross_share-crossed.ensures.done
+
+pub returns-in_err-report_share-clause-told : goal.returns-in_err-report_share-clause-told
+returns-in_err-report_share-clause-told g c = told_then c.args.hand.now c.enter_share.new.hand c.report_share.new.hand c.enter_share.ensures.told c.report_share.ensures.told
+
+pub returns-then-crossed-clause-told : goal.returns-then-crossed-clause-told
+returns-then-crossed-clause-told g c = told_three c.args.hand.now c.enter_share.new.hand c.report_share.new.hand c.cross_share-crossed.new.hand c.enter_share.ensures.told c.report_share.ensures.told c.cross_share-crossed.ensures.told
+
+pub returns-else-crossed-clause-told : goal.returns-else-crossed-clause-told
+returns-else-crossed-clause-told g c = told_three c.args.hand.now c.enter_share.new.hand c.report_share.new.hand c.cross_share-crossed.new.hand c.enter_share.ensures.told c.report_share.ensures.told c.cross_share-crossed.ensures.told

@@ -7,9 +7,10 @@ use Rattle.worker_turns.specs.declared.worker.TheConstants.{MOST_EXECUTED}
 use Rattle.worker_turns.specs.Passes.{pass_of}
 use Rattle.worker_turns.specs.Turning.{AreTakes, AreRuns, AreMeetingsOr}
 use Rattle.worker_hands.specs.Hands.{IsAsked}
+use Rattle.worker_hands.proofs.Asking.{told_then}
 use Rattle.worker_turns.proofs.Lists.{on_ok_of}
 use Rattle.worker_turns.proofs.Values.{more_of_none}
-use Rattle.worker_turns.proofs.Working.{worked_asked, later_asked, asked_three}
+use Rattle.worker_turns.proofs.Working.{worked_asked, later_asked, asked_three, told_three, told_four, told_five}
 use Rattle.worker_turns.proofs.worker.Worker.steps.Goals as goal
 
 pub returns-clause-done : goal.returns-clause-done
@@ -26,3 +27,18 @@ pub returns-in_default-second-clause-over : goal.returns-in_default-second-claus
 returns-in_default-second-clause-over g c =
     λ is. later_asked (Execute c.args.table.now.number) (Executed WasOver) c.args.hand.now c.meet.new.hand c.execute-second.new.hand (λ made. Unit {0})
     (asked_three c.args.hand.now c.take.new.hand c.execute-first.new.hand c.meet.new.hand (AreTakes (key_of c.args.table.now.turns.now).value c.args.table.now.number (view_of (pass_of c.args.self.now)) (view_of c.take.new.pass)) (AreRuns MOST_EXECUTED c.execute-first.new.left c.args.table.now.number) (AreMeetingsOr (key_of c.args.table.now.turns.now).value c.args.table.now.number (view_of c.execute-first.new.pass) (view_of c.meet.new.pass)) c.in-Ok.ensures.done (on_ok_of c.execute-first.result _ (IsAsked c.take.new.hand c.execute-first.new.hand (AreRuns MOST_EXECUTED c.execute-first.new.left c.args.table.now.number)) c.in-Ok-first.is c.execute-first.ensures.done) c.in-Ok-meet.ensures.done) (c.execute-second.ensures.over is)
+
+pub returns-in_default-first-clause-told : goal.returns-in_default-first-clause-told
+returns-in_default-first-clause-told g c = told_then c.args.hand.now c.take.new.hand c.execute-first.new.hand c.take.ensures.told c.execute-first.ensures.told
+
+pub returns-in_default-meet-clause-told : goal.returns-in_default-meet-clause-told
+returns-in_default-meet-clause-told g c = told_three c.args.hand.now c.take.new.hand c.execute-first.new.hand c.meet.new.hand c.take.ensures.told c.execute-first.ensures.told c.meet.ensures.told
+
+pub returns-in_default-second-clause-told : goal.returns-in_default-second-clause-told
+returns-in_default-second-clause-told g c = told_four c.args.hand.now c.take.new.hand c.execute-first.new.hand c.meet.new.hand c.execute-second.new.hand c.take.ensures.told c.execute-first.ensures.told c.meet.ensures.told c.execute-second.ensures.told
+
+pub returns-in_default-post-clause-told : goal.returns-in_default-post-clause-told
+returns-in_default-post-clause-told g c = told_five c.args.hand.now c.take.new.hand c.execute-first.new.hand c.meet.new.hand c.execute-second.new.hand c.post.new.hand c.take.ensures.told c.execute-first.ensures.told c.meet.ensures.told c.execute-second.ensures.told c.post.ensures.told
+
+pub returns-clause-told : goal.returns-clause-told
+returns-clause-told g c = told_five c.args.hand.now c.take.new.hand c.execute-first.new.hand c.meet.new.hand c.execute-second.new.hand c.post.new.hand c.take.ensures.told c.execute-first.ensures.told c.meet.ensures.told c.execute-second.ensures.told c.post.ensures.told
