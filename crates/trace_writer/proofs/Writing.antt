@@ -24,8 +24,10 @@ use Rattle.trace_writer.specs.Report.{events_of}
 use Rattle.trace_writer.specs.Trace.{action_line, entries_text, event_line, record_text}
 use Rattle.trace_writer.specs.Merging.{CanMerge, IsInOrder, entries_before, in_key_order, longest_name, merged}
 use Rattle.trace_writer.specs.Heads.{head_at, head_order, left_from, left_in_order, moved, AreHeads}
+use Rattle.trace_writer.specs.Sending.{Sends}
 use Rattle.trace_writer.proofs.Merges.{is_moved}
 use Rattle.trace_writer.proofs.Nexts.{among_moved, heads_more, others_left, taken_least, nothing_left}
+use Rattle.trace_writer.proofs.Sends.{part_longer, part_more, sends_more, sends_nothing}
 
 -- ---- texts
 
@@ -131,24 +133,24 @@ none_step lists below n old order count none at are = nothing_left lists below a
 
 -- ---- how far the merge is
 
-pub record AreWritten (names : Names) (lists : List (List Entry)) (below : ℕ) (heads : List (Reverse Head)) (old new : Option (List ℕ)) (count : ℕ) (done : List Entry) (at : ℕ → ℕ) : Type 0 where
+pub record AreWritten (names : Names) (lists : List (List Entry)) (below : ℕ) (heads : List (Reverse Head)) (kept : List ℕ) (old new : Option (List ℕ)) (count : ℕ) (done : List Entry) (at : ℕ → ℕ) : Type 0 where
   pub heads_are : AreHeads lists below at (length lists) heads
   pub parts : merged lists below ≡ done ++ left_in_order lists below at
-  pub text : Appends (entries_text names done) old new
+  pub text : Sends (entries_text names done) kept old new
   pub count_is : count ≡ length done
 
 left_at_first : (below : ℕ) (lists : List (List Entry)) → left_from below (λ _. 0) lists ≡ entries_before below (events_of lists)
 left_at_first below [] = refl
 left_at_first below (h ∷ hs) = ap (λ xs. entries_before below h ++ xs) (left_at_first below hs) ∙ sym (filter-append (λ (e : Entry). nat_lt e.key.time below) h (events_of hs))
 
-pub written_none : (names : Names) (lists : List (List Entry)) (below : ℕ) (heads : List (Reverse Head)) (old : Option (List ℕ)) → AreHeads lists below (λ _. 0) (length lists) heads → (done : List Entry) × (at : ℕ → ℕ) × AreWritten names lists below heads old old 0 done at
-written_none names lists below heads old are = (
+pub written_none : (names : Names) (lists : List (List Entry)) (below : ℕ) (heads : List (Reverse Head)) (kept : List ℕ) (old : Option (List ℕ)) → kept ≡ [] → AreHeads lists below (λ _. 0) (length lists) heads → (done : List Entry) × (at : ℕ → ℕ) × AreWritten names lists below heads kept old old 0 done at
+written_none names lists below heads kept old none are = (
   [],
   (λ _. 0),
   record {
     heads_are = are;
     parts = ap (λ xs. in_key_order xs) (sym (left_at_first below lists));
-    text = subst (λ t. Appends t old old) (sym (text_none names)) (appends_none old);
+    text = subst (λ t. Sends t kept old old) (none ∙ sym (text_none names)) (sends_nothing kept old);
     count_is = refl;
   },
 )
@@ -201,36 +203,36 @@ rising_in_order (x ∷ xs) r = (
 abbrev pub HasNext : List (List Entry) → ℕ → List (Reverse Head) → List (Reverse Head) → Entry → Type 0
 HasNext lists below heads later e = (at : ℕ → ℕ) → AreHeads lists below at (length lists) heads → (after : ℕ → ℕ) × AreHeads lists below after (length lists) later × (left_in_order lists below at ≡ e ∷ left_in_order lists below after)
 
-abbrev pub IsWritten : Names → List (List Entry) → ℕ → List (Reverse Head) → Option (List ℕ) → Option (List ℕ) → ℕ → Type 0
-IsWritten names lists below heads old new count = (done : List Entry) × (at : ℕ → ℕ) × AreWritten names lists below heads old new count done at
+abbrev pub IsWritten : Names → List (List Entry) → ℕ → List (Reverse Head) → List ℕ → Option (List ℕ) → Option (List ℕ) → ℕ → Type 0
+IsWritten names lists below heads kept old new count = (done : List Entry) × (at : ℕ → ℕ) × AreWritten names lists below heads kept old new count done at
 
-pub some_heads : (names : Names) (lists : List (List Entry)) (below : ℕ) (heads : List (Reverse Head)) (old new : Option (List ℕ)) (count : ℕ) → IsWritten names lists below heads old new count → (at : ℕ → ℕ) × AreHeads lists below at (length lists) heads
-some_heads names lists below heads old new count written = (written.1, written.2.heads_are)
+pub some_heads : (names : Names) (lists : List (List Entry)) (below : ℕ) (heads : List (Reverse Head)) (kept : List ℕ) (old new : Option (List ℕ)) (count : ℕ) → IsWritten names lists below heads kept old new count → (at : ℕ → ℕ) × AreHeads lists below at (length lists) heads
+some_heads names lists below heads kept old new count written = (written.1, written.2.heads_are)
 
 -- all that is merged, where e comes next
-pub next_parts : (names : Names) (lists : List (List Entry)) (below : ℕ) (heads later : List (Reverse Head)) (old new : Option (List ℕ)) (count : ℕ) (e : Entry) → IsWritten names lists below heads old new count → HasNext lists below heads later e
-    → (done rest : List Entry) × (merged lists below ≡ done ++ e ∷ rest) × Appends (entries_text names done) old new × (count ≡ length done)
-next_parts names lists below heads later old new count e written next =
+pub next_parts : (names : Names) (lists : List (List Entry)) (below : ℕ) (heads later : List (Reverse Head)) (kept : List ℕ) (old new : Option (List ℕ)) (count : ℕ) (e : Entry) → IsWritten names lists below heads kept old new count → HasNext lists below heads later e
+    → (done rest : List Entry) × (merged lists below ≡ done ++ e ∷ rest) × Sends (entries_text names done) kept old new × (count ≡ length done)
+next_parts names lists below heads later kept old new count e written next =
     let step = next written.1 written.2.heads_are in
     (written.0, left_in_order lists below step.0, written.2.parts ∙ ap (λ xs. written.0 ++ xs) step.2, written.2.text, written.2.count_is)
 
-pub next_named : (names : Names) (lists : List (List Entry)) (below : ℕ) (heads later : List (Reverse Head)) (old new : Option (List ℕ)) (count : ℕ) (e : Entry) → CanMerge names lists → IsWritten names lists below heads old new count → HasNext lists below heads later e
+pub next_named : (names : Names) (lists : List (List Entry)) (below : ℕ) (heads later : List (Reverse Head)) (kept : List ℕ) (old new : Option (List ℕ)) (count : ℕ) (e : Entry) → CanMerge names lists → IsWritten names lists below heads kept old new count → HasNext lists below heads later e
     → e.entity < length names.names
-next_named names lists below heads later old new count e can written next =
-    let p = next_parts names lists below heads later old new count e written next in
+next_named names lists below heads later kept old new count e can written next =
+    let p = next_parts names lists below heads later kept old new count e written next in
     let among : Among e (merged lists below) = subst (λ xs. Among e xs) (sym p.2) (among_append_right e p.0 (e ∷ p.1) (inl refl)) in
     can.named e (merged_from lists below e among).0
 
-pub next_count : (names : Names) (lists : List (List Entry)) (below : ℕ) (heads later : List (Reverse Head)) (old new : Option (List ℕ)) (count : ℕ) (e : Entry) → IsWritten names lists below heads old new count → HasNext lists below heads later e → count < length (merged lists below)
-next_count names lists below heads later old new count e written next =
-    let p = next_parts names lists below heads later old new count e written next in
+pub next_count : (names : Names) (lists : List (List Entry)) (below : ℕ) (heads later : List (Reverse Head)) (kept : List ℕ) (old new : Option (List ℕ)) (count : ℕ) (e : Entry) → IsWritten names lists below heads kept old new count → HasNext lists below heads later e → count < length (merged lists below)
+next_count names lists below heads later kept old new count e written next =
+    let p = next_parts names lists below heads later kept old new count e written next in
     let long = ap length p.2 ∙ length-append p.0 (e ∷ p.1) in
     let is = p.4 in
     omega arith
 
-pub next_written : (names : Names) (lists : List (List Entry)) (below : ℕ) (heads later : List (Reverse Head)) (old mid new : Option (List ℕ)) (count : ℕ) (e : Entry) → IsWritten names lists below heads old mid count → HasNext lists below heads later e → Appends (record_text names e) mid new
-    → IsWritten names lists below later old new (count + 1)
-next_written names lists below heads later old mid new count e written next text =
+pub next_written : (names : Names) (lists : List (List Entry)) (below : ℕ) (heads later : List (Reverse Head)) (kept rest : List ℕ) (old mid new : Option (List ℕ)) (count : ℕ) (e : Entry) → IsWritten names lists below heads kept old mid count → HasNext lists below heads later e → Sends (kept ++ record_text names e) rest mid new
+    → IsWritten names lists below later rest old new (count + 1)
+next_written names lists below heads later kept rest old mid new count e written next text =
     let step = next written.1 written.2.heads_are in
     let done = written.0 in
     let one : List Entry = e ∷ [] in
@@ -241,27 +243,28 @@ next_written names lists below heads later old mid new count e written next text
       record {
         heads_are = step.1;
         parts = written.2.parts ∙ (ap (λ xs. done ++ xs) step.2 ∙ sym (append_assoc done one (left_in_order lists below step.0)));
-        text = subst (λ t. Appends t old new) (sym (text_one names done e)) (appends_then (entries_text names done) (record_text names e) old mid new written.2.text text);
+        text = subst (λ t. Sends t rest old new) (sym (text_one names done e)) (sends_more (entries_text names done) kept (record_text names e) rest old mid new written.2.text text);
         count_is = omega arith;
       },
     )
 
-pub next_failed : (names : Names) (lists : List (List Entry)) (below : ℕ) (heads later : List (Reverse Head)) (old mid new : Option (List ℕ)) (count : ℕ) (e : Entry) → IsWritten names lists below heads old mid count → HasNext lists below heads later e → AppendsPrefix (record_text names e) mid new
+pub next_failed : (names : Names) (lists : List (List Entry)) (below : ℕ) (heads later : List (Reverse Head)) (kept : List ℕ) (old mid new : Option (List ℕ)) (count : ℕ) (e : Entry) → IsWritten names lists below heads kept old mid count → HasNext lists below heads later e → AppendsPrefix (kept ++ record_text names e) mid new
     → AppendsPrefix (entries_text names (merged lists below)) old new
-next_failed names lists below heads later old mid new count e written next part =
-    let p = next_parts names lists below heads later old mid count e written next in
+next_failed names lists below heads later kept old mid new count e written next part =
+    let p = next_parts names lists below heads later kept old mid count e written next in
     let text : entries_text names (merged lists below) ≡ entries_text names p.0 ++ (record_text names e ++ entries_text names p.1) = ap (λ xs. entries_text names xs) p.2 ∙ text_push names p.0 e p.1 in
-    subst (λ t. AppendsPrefix t old new) (sym text) (prefix_then (entries_text names p.0) (record_text names e) (entries_text names p.1) old mid new p.3 part)
+    subst (λ t. AppendsPrefix t old new) (sym text) (subst (λ t. AppendsPrefix t old new) (append_assoc (entries_text names p.0) (record_text names e) (entries_text names p.1))
+    (part_longer (entries_text names p.0 ++ record_text names e) (entries_text names p.1) old new (part_more (entries_text names p.0) kept (record_text names e) old mid new p.3 part)))
 
 -- nothing comes next
 abbrev pub HasNone : List (List Entry) → ℕ → List (Reverse Head) → Type 0
 HasNone lists below heads = (at : ℕ → ℕ) → AreHeads lists below at (length lists) heads → left_in_order lists below at ≡ []
 
-pub all_written : (names : Names) (lists : List (List Entry)) (below : ℕ) (heads : List (Reverse Head)) (old new : Option (List ℕ)) (count : ℕ) → IsWritten names lists below heads old new count → HasNone lists below heads
-    → Appends (entries_text names (merged lists below)) old new × (count ≡ length (merged lists below))
-all_written names lists below heads old new count written none =
+pub all_written : (names : Names) (lists : List (List Entry)) (below : ℕ) (heads : List (Reverse Head)) (kept : List ℕ) (old new : Option (List ℕ)) (count : ℕ) → IsWritten names lists below heads kept old new count → HasNone lists below heads
+    → Sends (entries_text names (merged lists below)) kept old new × (count ≡ length (merged lists below))
+all_written names lists below heads kept old new count written none =
     let is : merged lists below ≡ written.0 = written.2.parts ∙ (ap (λ xs. written.0 ++ xs) (none written.1 written.2.heads_are) ∙ append-nil written.0) in
-    (subst (λ xs. Appends (entries_text names xs) old new) (sym is) written.2.text, written.2.count_is ∙ ap length (sym is))
+    (subst (λ xs. Sends (entries_text names xs) kept old new) (sym is) written.2.text, written.2.count_is ∙ ap length (sym is))
 
 -- ---- as the code has it
 
@@ -276,35 +279,63 @@ lines_split (x ∷ xs) (suc i) d h =
     ap (λ t. action_line x ++ t) (lines_split xs i d (omega arith))
     ∙ sym (append_assoc (action_line x) (flat_map action_line (take i xs)) (action_line (slice_index_or xs i d) ++ flat_map action_line (drop (suc i) xs)))
 
--- a line of an action was not written to its end
-pub lines_failed : (lines : List Line) (i : ℕ) (d : Line) (empty bytes : List ℕ) (old mid new : Option (List ℕ)) → i < length lines → Appends (flat_map action_line (take i lines)) old mid → empty ≡ [] → bytes ≡ empty ++ action_line (slice_index_or lines i d)
-    → AppendsPrefix bytes mid new → AppendsPrefix (flat_map action_line lines) old new
-lines_failed lines i d empty bytes old mid new h text none is part =
-    let line : bytes ≡ action_line (slice_index_or lines i d) = is ∙ ap (λ t. t ++ action_line (slice_index_or lines i d)) none in
-    subst (λ t. AppendsPrefix t old new) (sym (lines_split lines i d h))
-    (prefix_then (flat_map action_line (take i lines)) (action_line (slice_index_or lines i d)) (flat_map action_line (drop (suc i) lines)) old mid new text (subst (λ t. AppendsPrefix t mid new) line part))
+-- the lines of actions up to one, and that one
+pub actions_next : (lines : List Line) (i : ℕ) (d : Line) (base : List ℕ) → i < length lines
+    → base ++ flat_map action_line lines ≡ ((base ++ flat_map action_line (take i lines)) ++ action_line (slice_index_or lines i d)) ++ flat_map action_line (drop (suc i) lines)
+actions_next lines i d base h =
+    let done = flat_map action_line (take i lines) in
+    let one = action_line (slice_index_or lines i d) in
+    let later = flat_map action_line (drop (suc i) lines) in
+    ap (λ t. base ++ t) (lines_split lines i d h)
+    ∙ (sym (append_assoc base done (one ++ later)) ∙ sym (append_assoc (base ++ done) one later))
 
--- the line of an event was not written to its end, or those of its actions were not, or all were written
-pub event_failed : (names : Names) (entry : Entry) (name empty bytes : List ℕ) (old new : Option (List ℕ)) → slice_get names.names entry.entity ≡ Some name → empty ≡ [] → bytes ≡ empty ++ event_line name entry → AppendsPrefix bytes old new → AppendsPrefix (record_text names entry) old new
-event_failed names entry name empty bytes old new named none is part =
-    let line : bytes ≡ event_line name entry = is ∙ ap (λ t. t ++ event_line name entry) none in
-    subst (λ t. AppendsPrefix t old new) (sym (record_is names entry name named)) (prefix_first (event_line name entry) (flat_map action_line entry.lines) old new (subst (λ t. AppendsPrefix t old new) line part))
+lines_taken : (lines : List Line) (i : ℕ) (d : Line) → i < length lines → flat_map action_line (take (suc i) lines) ≡ flat_map action_line (take i lines) ++ action_line (slice_index_or lines i d)
+lines_taken [] i d h = absurd (omega arith)
+lines_taken (x ∷ xs) zero d h = append-nil (action_line x)
+lines_taken (x ∷ xs) (suc i) d h =
+    ap (λ t. action_line x ++ t) (lines_taken xs i d (omega arith)) ∙ sym (append_assoc (action_line x) (flat_map action_line (take i xs)) (action_line (slice_index_or xs i d)))
 
-pub actions_failed : (names : Names) (entry : Entry) (name empty bytes : List ℕ) (lines : List Line) (old mid new : Option (List ℕ)) → slice_get names.names entry.entity ≡ Some name → empty ≡ [] → bytes ≡ empty ++ event_line name entry → lines ≡ entry.lines
-    → Appends bytes old mid → AppendsPrefix (flat_map action_line lines) mid new → AppendsPrefix (record_text names entry) old new
-actions_failed names entry name empty bytes lines old mid new named none is same text part =
-    let line : bytes ≡ event_line name entry = is ∙ ap (λ t. t ++ event_line name entry) none in
-    let actions = flat_map action_line entry.lines in
-    let all : record_text names entry ≡ event_line name entry ++ (actions ++ []) = record_is names entry name named ∙ ap (λ t. event_line name entry ++ t) (sym (append-nil actions)) in
-    subst (λ t. AppendsPrefix t old new) (sym all)
-    (prefix_then (event_line name entry) actions [] old mid new (subst (λ t. Appends t old mid) line text) (subst (λ xs. AppendsPrefix (flat_map action_line xs) mid new) same part))
+-- one more line of an action was sent or is held back
+pub lines_sent : (lines : List Line) (i next : ℕ) (d : Line) (base mid rest : List ℕ) (old new later : Option (List ℕ)) → next ≡ suc i → i < length lines → Sends (base ++ flat_map action_line (take i lines)) mid old new
+    → Sends (mid ++ action_line (slice_index_or lines i d)) rest new later → Sends (base ++ flat_map action_line (take next lines)) rest old later
+lines_sent lines i next d base mid rest old new later is h first second =
+    let done = flat_map action_line (take i lines) in
+    let one = action_line (slice_index_or lines i d) in
+    let text : base ++ flat_map action_line (take next lines) ≡ (base ++ done) ++ one =
+    ap (λ n. base ++ flat_map action_line (take n lines)) is ∙ (ap (λ t. base ++ t) (lines_taken lines i d h) ∙ sym (append_assoc base done one)) in
+    subst (λ t. Sends t rest old later) (sym text) (sends_more (base ++ done) mid one rest old new later first second)
 
-pub record_written : (names : Names) (entry : Entry) (name empty bytes : List ℕ) (lines : List Line) (old mid new : Option (List ℕ)) → slice_get names.names entry.entity ≡ Some name → empty ≡ [] → bytes ≡ empty ++ event_line name entry → lines ≡ entry.lines
-    → Appends bytes old mid → Appends (flat_map action_line lines) mid new → Appends (record_text names entry) old new
-record_written names entry name empty bytes lines old mid new named none is same text rest =
-    let line : bytes ≡ event_line name entry = is ∙ ap (λ t. t ++ event_line name entry) none in
-    subst (λ t. Appends t old new) (sym (record_is names entry name named))
-    (appends_then (event_line name entry) (flat_map action_line entry.lines) old mid new (subst (λ t. Appends t old mid) line text) (subst (λ xs. Appends (flat_map action_line xs) mid new) same rest))
+-- a line of an action was not sent
+pub lines_failed : (lines : List Line) (i : ℕ) (d : Line) (base mid : List ℕ) (old new later : Option (List ℕ)) → i < length lines → Sends (base ++ flat_map action_line (take i lines)) mid old new
+    → AppendsPrefix (mid ++ action_line (slice_index_or lines i d)) new later → AppendsPrefix (base ++ flat_map action_line lines) old later
+lines_failed lines i d base mid old new later h sent part =
+    let done = base ++ flat_map action_line (take i lines) in
+    let one = action_line (slice_index_or lines i d) in
+    subst (λ t. AppendsPrefix t old later) (sym (actions_next lines i d base h))
+    (part_longer (done ++ one) (flat_map action_line (drop (suc i) lines)) old later (part_more done mid one old new later sent part))
+
+record_whole : (names : Names) (entry : Entry) (name base : List ℕ) → slice_get names.names entry.entity ≡ Some name
+    → base ++ record_text names entry ≡ (base ++ event_line name entry) ++ flat_map action_line entry.lines
+record_whole names entry name base named =
+    ap (λ t. base ++ t) (record_is names entry name named) ∙ sym (append_assoc base (event_line name entry) (flat_map action_line entry.lines))
+
+-- all of a record was sent or is held back, or the line of the event was not sent, or those of its actions were not
+pub record_sent : (names : Names) (entry : Entry) (name base mid rest : List ℕ) (lines : List Line) (old new later : Option (List ℕ)) → slice_get names.names entry.entity ≡ Some name → lines ≡ entry.lines
+    → Sends (base ++ event_line name entry) mid old new → Sends (mid ++ flat_map action_line lines) rest new later → Sends (base ++ record_text names entry) rest old later
+record_sent names entry name base mid rest lines old new later named same first second =
+    subst (λ t. Sends t rest old later) (sym (record_whole names entry name base named))
+    (sends_more (base ++ event_line name entry) mid (flat_map action_line entry.lines) rest old new later first (subst (λ xs. Sends (mid ++ flat_map action_line xs) rest new later) same second))
+
+pub event_failed : (names : Names) (entry : Entry) (name base : List ℕ) (old new : Option (List ℕ)) → slice_get names.names entry.entity ≡ Some name
+    → AppendsPrefix (base ++ event_line name entry) old new → AppendsPrefix (base ++ record_text names entry) old new
+event_failed names entry name base old new named part =
+    subst (λ t. AppendsPrefix t old new) (sym (record_whole names entry name base named)) (part_longer (base ++ event_line name entry) (flat_map action_line entry.lines) old new part)
+
+pub actions_failed : (names : Names) (entry : Entry) (name base mid : List ℕ) (lines : List Line) (old new later : Option (List ℕ)) → slice_get names.names entry.entity ≡ Some name → lines ≡ entry.lines
+    → Sends (base ++ event_line name entry) mid old new → AppendsPrefix (mid ++ flat_map action_line lines) new later → AppendsPrefix (base ++ record_text names entry) old later
+actions_failed names entry name base mid lines old new later named same first part =
+    subst (λ t. AppendsPrefix t old later) (sym (record_whole names entry name base named))
+    (part_more (base ++ event_line name entry) mid (flat_map action_line entry.lines) old new later first (subst (λ xs. AppendsPrefix (mid ++ flat_map action_line xs) new later) same part))
 
 longest_grows : (names : List (List ℕ)) (n : ℕ) → n ≤ fold (λ longest (name : List ℕ). max longest (length name)) n names
 longest_grows [] n = omega arith

@@ -8,6 +8,7 @@
 #![tactic(auto)]
 
 mod fields;
+mod gathering;
 mod heads;
 mod histories;
 pub mod laws;

@@ -1,25 +1,25 @@
 //! The text of several histories, merged in the order of their keys.
-ghost use Rattle.std.specs.Prelude.{◌≡◌, ℕ, ◌+◌, ◌*◌, ◌<◌, ◌≤◌, ◌⊎◌, ◌++◌, length, vec_len, IfOk, IfErr, OnOk, OnErr};
+ghost use Rattle.std.specs.Prelude.{◌≡◌, ◌+◌, ◌≤◌, ◌⊎◌, [], length, IfOk, IfErr, OnOk, OnErr};
 ghost use Rattle.std.specs.Vec.{vec_capacity};
-ghost use Rattle.std.specs.List.{flat_map};
 ghost use Rattle.std.specs.BinaryHeap.{heap_items, heap_len, heap_capacity, IsHeap};
 ghost use Rattle.sim_base.specs.Outside.{Rose, Appends, AppendsPrefix};
-ghost use Rattle.trace_writer.specs.Trace.{action_line, entries_text, event_line, record_text};
+ghost use Rattle.trace_writer.specs.Trace.{entries_text};
 ghost use Rattle.trace_writer.specs.Heads.{AreHeads, head_order};
 ghost use Rattle.trace_writer.specs.Merging.{CanMerge, HasRoom, longest_name, merged};
+ghost use Rattle.trace_writer.specs.Sending.{Sends};
 
 use crate::Histories;
+use crate::gathering::{LINE_ROOM, flush, send_record};
 use crate::heads::{Head, begin, take_next};
-use crate::lines::{ACTION_ROOM, EVENT_ROOM, put_action_line, put_event_line};
-use sim_base::{Failed, Memory, Sink, write_all};
-use ssf_model::{Entry, Line, Names};
+use sim_base::{Failed, Memory, Sink};
+use ssf_model::Names;
 use std::alloc::Global;
 use std::cmp::Reverse;
 use std::collections::BinaryHeap;
 use std::marker::Model;
 
-/// The room of a line besides an entity's name, in bytes.
-const LINE_ROOM: usize = 160;
+/// How many bytes of lines are gathered before they are written, at least.
+const BUFFER: usize = 65_536;
 
 /// Why histories were not written.
 #[derive(Clone, Copy, Debug, PartialEq, Eq)]
@@ -55,7 +55,7 @@ impl From<Failed> for MergeFault {
 /// Writes merged histories. Contracts see its room, which is taken when it is made.
 #[derive(Drop)]
 pub struct Merger {
-    line: Vec<u8>,
+    gathered: Vec<u8>,
     heads: BinaryHeap<Reverse<Head>>,
 }
 
@@ -66,7 +66,7 @@ impl Model for Merger {
 
     ghost Value = { Room };
 
-    ghost view = { λ m. record { line = vec_capacity m.line; places = heap_capacity m.heads } };
+    ghost view = { λ m. record { line = vec_capacity m.gathered; places = heap_capacity m.heads } };
 }
 
 impl Merger {
@@ -82,9 +82,11 @@ impl Merger {
     fn with_places(alloc: Global, names: &Names, places: usize) -> Result<Merger, Memory>
         ensures { IfOk result (λ room. HasRoom names.now places room) }
     {
-        let room = longest_of(names).checked_add(LINE_ROOM).ok_or(Memory)?;
+        let room = longest_of(names)
+            .checked_add(LINE_ROOM + BUFFER)
+            .ok_or(Memory)?;
         Ok(Merger {
-            line: Vec::with_capacity(alloc, room)?,
+            gathered: Vec::with_capacity(alloc, room)?,
             heads: BinaryHeap::with_capacity(alloc, places)?,
         })
     }
@@ -95,6 +97,7 @@ impl Merger {
     /// # Errors
     /// `Failed` only where the sink's `faults` rose in this call. Then a part of the text from its
     /// beginning was appended.
+    #[tactic(auto, using(crate::proofs::Sends::sends_end, crate::proofs::Sends::part_end))]
     pub fn write<K: Sink, H: Histories>(
         &mut self,
         names: &Names,
@@ -112,15 +115,18 @@ impl Merger {
         ensures room { (self.old.line ≤ self.new.line) × (self.old.places ≤ self.new.places) }
     {
         self.heads.clear();
+        self.gathered.clear();
         begin(&mut self.heads, histories, below);
-        write_rest(
-            &mut self.line,
+        let count = send_rest(
+            &mut self.gathered,
             &mut self.heads,
             names,
             histories,
             below,
             sink,
-        )
+        )?;
+        flush(&mut self.gathered, sink)?;
+        Ok(count)
     }
 }
 
@@ -162,72 +168,34 @@ fn longest_of(names: &Names) -> usize
     longest
 }
 
-/// Writes the records of all entries below the bound, where the heap has the first of each history, and
-/// answers how many there are.
-fn write_rest<K: Sink, H: Histories>(
-    line: &mut Vec<u8>,
+/// Gathers the records of all entries below the bound, where the heap has the first of each history, and
+/// answers how many there are. What has no room is written.
+fn send_rest<K: Sink, H: Histories>(
+    gathered: &mut Vec<u8>,
     heads: &mut BinaryHeap<Reverse<Head>>,
     names: &Names,
     histories: &H,
     below: u64,
     sink: &mut K,
 ) -> Result<u64, Failed>
-    requires line { longest_name names.now + LINE_ROOM ≤ vec_capacity line.old }
+    requires empty { gathered.old.items ≡ [] }
+    requires line { longest_name names.now + LINE_ROOM ≤ vec_capacity gathered.old }
     requires room { heap_len heads.old ≤ heap_capacity heads.old }
     requires heap { IsHeap head_order (heap_items heads.old) }
     requires heads { AreHeads (H.lists histories.now) below (λ _. 0) (length (H.lists histories.now)) (heap_items heads.old) }
     requires histories { CanMerge names.now (H.lists histories.now) }
     ensures count { IfOk result (λ count. count ≡ length (merged (H.lists histories.now) below)) }
-    ensures text { OnOk result (Appends (entries_text names.now (merged (H.lists histories.now) below)) (K.held sink.old) (K.held sink.new)) }
+    ensures sent { OnOk result (Sends (entries_text names.now (merged (H.lists histories.now) below)) gathered.new.items (K.held sink.old) (K.held sink.new)) }
     ensures part { OnErr result (AppendsPrefix (entries_text names.now (merged (H.lists histories.now) below)) (K.held sink.old) (K.held sink.new)) }
     ensures cause { OnErr result (Rose (K.faults sink.old) (K.faults sink.new)) }
     ensures never_falls { K.faults sink.old ≤ K.faults sink.new }
-    ensures capacity { vec_capacity line.old ≤ vec_capacity line.new }
+    ensures capacity { vec_capacity gathered.old ≤ vec_capacity gathered.new }
     ensures places { heap_capacity heads.old ≤ heap_capacity heads.new }
 {
     let mut count = 0;
     while let Some(entry) = take_next(heads, histories, below) {
-        write_record(line, names, entry, sink)?;
+        send_record(names, entry, gathered, sink)?;
         count += 1;
     }
     Ok(count)
-}
-
-/// Writes the record of an entry, line by line, each of which is put together in `line`.
-fn write_record<K: Sink>(
-    line: &mut Vec<u8>,
-    names: &Names,
-    entry: &Entry,
-    sink: &mut K,
-) -> Result<(), Failed>
-    requires room { longest_name names.now + LINE_ROOM ≤ vec_capacity line.old }
-    requires named { entry.now.entity < length names.now.names }
-    ensures text { OnOk result (Appends (record_text names.now entry.now) (K.held sink.old) (K.held sink.new)) }
-    ensures part { OnErr result (AppendsPrefix (record_text names.now entry.now) (K.held sink.old) (K.held sink.new)) }
-    ensures cause { OnErr result (Rose (K.faults sink.old) (K.faults sink.new)) }
-    ensures never_falls { K.faults sink.old ≤ K.faults sink.new }
-    ensures capacity { vec_capacity line.old ≤ vec_capacity line.new }
-{
-    line.clear();
-    put_event_line(names.name(entry.entity), entry, line);
-    write_all(sink, line)?;
-    write_lines(line, entry.lines.as_slice(), sink)?;
-    Ok(())
-}
-
-/// Writes the lines of actions.
-fn write_lines<K: Sink>(line: &mut Vec<u8>, lines: &[Line], sink: &mut K) -> Result<(), Failed>
-    requires room { LINE_ROOM ≤ vec_capacity line.old }
-    ensures text { OnOk result (Appends (flat_map action_line lines.now) (K.held sink.old) (K.held sink.new)) }
-    ensures part { OnErr result (AppendsPrefix (flat_map action_line lines.now) (K.held sink.old) (K.held sink.new)) }
-    ensures cause { OnErr result (Rose (K.faults sink.old) (K.faults sink.new)) }
-    ensures never_falls { K.faults sink.old ≤ K.faults sink.new }
-    ensures capacity { vec_capacity line.old ≤ vec_capacity line.new }
-{
-    for action in lines {
-        line.clear();
-        put_action_line(action, line);
-        write_all(sink, line)?;
-    }
-    Ok(())
 }
