@@ -14,7 +14,7 @@ use ssf_model::{Entry, Line, Names};
 /// The room of a line besides an entity's name, in bytes.
 pub(crate) const LINE_ROOM: usize = 160;
 
-/// Writes what was gathered, and gathers anew. Where nothing was gathered the sink is not called.
+/// Writes what was gathered, and gathers anew. Where that is nothing the sink is not called.
 pub(crate) fn flush<K: Sink>(gathered: &mut Vec<u8>, sink: &mut K) -> Result<(), Failed>
     ensures all { OnOk result (Appends gathered.old.items (K.held sink.old) (K.held sink.new)) }
     ensures empty { OnOk result (gathered.new.items ≡ []) }

@@ -18,7 +18,7 @@ use std::cmp::Reverse;
 use std::collections::BinaryHeap;
 use std::marker::Model;
 
-/// How many bytes of lines are gathered before they are written, at least.
+/// How many bytes the buffer for lines has besides the room for the longest one.
 const BUFFER: usize = 65_536;
 
 /// Why histories were not written.
@@ -71,7 +71,7 @@ impl Model for Merger {
 
 impl Merger {
     /// Takes room for a line with the longest of these names, and for a place in each of so many
-    /// histories.
+    /// histories. The buffer in which lines are gathered has 64 KiB more than that line.
     pub fn new(alloc: Global, names: &Names, timelines: u32) -> Result<Merger, Memory>
         ensures { IfOk result (λ room. HasRoom names.now timelines room) }
     {
@@ -92,7 +92,8 @@ impl Merger {
     }
 
     /// Writes the records of all entries with a time below the bound, in the order of their keys, and
-    /// answers how many there are. It takes no memory, and keeps its room.
+    /// answers how many there are. Lines are gathered, and after an `Ok` all are on the sink. It takes
+    /// no memory, and keeps its room.
     ///
     /// # Errors
     /// `Failed` only where the sink's `faults` rose in this call. Then a part of the text from its
