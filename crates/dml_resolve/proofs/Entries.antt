@@ -1,6 +1,6 @@
 -- The attributes of a level as entries of the definition.
-use Rattle.std.proofs.Common.{◌≡◌, ℕ, ◌<◌, ◌≤◌, ◌+◌, suc, Bool, true, false, List, [], ◌∷◌, ◌++◌, length, get_or, drop, map, filter, refl, ap, sym, ◌∙◌, add-one, drop_of_length-le}
-use Rattle.std.specs.Prelude.{nat_eq, not, ◌&&◌, ◌||◌, if◌then◌else◌}
+use Rattle.std.proofs.Common.{◌≡◌, ℕ, ◌<◌, ◌≤◌, ◌+◌, suc, Bool, true, false, List, [], ◌∷◌, ◌++◌, length, get_or, drop, map, filter, refl, ap, sym, ◌∙◌, add-one, append_assoc, drop_of_length-le}
+use Rattle.std.specs.Prelude.{cond, nat_eq, not, ◌&&◌, ◌||◌, if◌then◌else◌}
 use Rattle.std.specs.Cmp.Lexicographic.{pointwise}
 use Rattle.std.proofs.Math.Seq.{drop-cons}
 use Rattle.std.proofs.lemmas.List.Elements.{filter-append}
@@ -105,3 +105,28 @@ moved_all root l [] = refl
 moved_all root l (x ∷ xs) =
     moved_by root l x.left x.kept x.attribute.now.key x.attribute.now.place x.attribute.now.value (entries_of root xs)
     ∙ ap (λ r. entry_from root l false x.attribute.now.key x.attribute.now.place x.attribute.now.value ∷ r) (moved_all root l xs)
+
+pub keep_step : (p : Member → Bool) (xs : List Member) (i : ℕ) (x : Member) (before after : List Member) → i < length xs → x ≡ get_or xs i x → p x ≡ true → after ≡ before ++ x ∷ [] → after ++ filter p (drop (i + 1) xs) ≡ before ++ filter p (drop i xs)
+keep_step p xs i x before after lt is e pushed =
+    ap (λ l. l ++ filter p (drop (i + 1) xs)) pushed ∙ (append_assoc before (x ∷ []) (filter p (drop (i + 1) xs))
+    ∙ ap (λ l. before ++ l) (sym (ap (filter p) (drop_item xs i x lt is) ∙ ap (λ b. if b then x ∷ filter p (drop (i + 1) xs) else filter p (drop (i + 1) xs)) e)))
+
+pub skip_step : (p : Member → Bool) (xs : List Member) (i : ℕ) (x : Member) (before : List Member) → i < length xs → x ≡ get_or xs i x → p x ≡ false → before ++ filter p (drop (i + 1) xs) ≡ before ++ filter p (drop i xs)
+skip_step p xs i x before lt is e =
+    ap (λ l. before ++ l) (sym (ap (filter p) (drop_item xs i x lt is) ∙ ap (λ b. if b then x ∷ filter p (drop (i + 1) xs) else filter p (drop (i + 1) xs)) e))
+
+-- the key of one more plain attribute is in the set
+pub key_put : (s k old new rest whole : Bool) → s ≡ false → new ≡ cond k true old → (old || (not s && k || rest)) ≡ whole → (new || rest) ≡ whole
+key_put false true true new rest whole h e f = ap (λ b. b || rest) e ∙ f
+key_put false true false new rest whole h e f = ap (λ b. b || rest) e ∙ f
+key_put false false old new rest whole h e f = ap (λ b. b || rest) e ∙ f
+key_put true k old new rest whole h e f = absurd (cc)
+
+-- a substitution adds no key
+pub key_passed : (s k old rest whole : Bool) → s ≡ true → (old || (not s && k || rest)) ≡ whole → (old || rest) ≡ whole
+key_passed true k old rest whole h f = f
+key_passed false k old rest whole h f = absurd (cc)
+
+pub or_none : (b : Bool) → (b || false) ≡ b
+or_none true = refl
+or_none false = refl

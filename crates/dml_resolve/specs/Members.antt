@@ -1,6 +1,9 @@
 -- What the attributes of a level stand for, and where they may lie.
 use Rattle.std.specs.Prelude.{◌≡◌, ℕ, ◌<◌, ◌≤◌, Bool, true, false, not, ◌&&◌, if◌then◌else◌, nat_eq, List, [], ◌∷◌, ◌++◌, Result, Ok, Err}
-use Rattle.std.specs.Cmp.Lexicographic.{pointwise}
+use Rattle.std.specs.Borrow.{Bor}
+use Rattle.std.specs.Ordering.{nat_cmp}
+use Rattle.std.specs.Cmp.Lexicographic.{pointwise, slice_cmp}
+use Rattle.std.specs.BTreeSet.{BTreeSet, contains_by}
 use Rattle.dml_tree.specs.declared.tree.Place.{Place}
 use Rattle.dml_tree.specs.declared.tree.Attribute.{Attribute}
 use Rattle.dml_tree.specs.declared.tree.Value.{Value}
@@ -66,6 +69,10 @@ is_keyed key member = pointwise nat_eq member.attribute.now.key key
 -- no plain attribute of the list has the attribute's key
 abbrev pub is_missing : Attributes → Member → Bool
 is_missing written member = not (has_plain written member.attribute.now.key)
+
+-- the set has the keys of the plain attributes of the list
+abbrev pub IsKeysOf : Attributes → BTreeSet (Bor (List ℕ)) → Type 0
+IsKeysOf written keys = (wanted : List ℕ) → contains_by (λ key. slice_cmp nat_cmp wanted key.now) keys ≡ has_plain written wanted
 
 -- the attribute where `_find` gives it, one level below
 abbrev pub moved_to : ℕ → Member → Member

@@ -1,15 +1,17 @@
 //! The level of a list: its attributes with every substitution replaced.
-ghost use Rattle.std.specs.Prelude.{◌≡◌, ◌<◌, ◌≤◌, ◌++◌, ◌⊎◌, ◌&&◌, [], Ok, Err, IfOk, IfErr, All, map, length, OnOk, Bool};
+ghost use Rattle.std.specs.Prelude.{◌≡◌, ◌<◌, ◌≤◌, ◌++◌, ◌⊎◌, ◌&&◌, [], Ok, Err, IfOk, IfErr, All, map, length, OnOk, Bool, IfSome};
 ghost use Rattle.dml_tree.specs.Attributes.{weight};
 ghost use Rattle.dml_resolve.specs.Resolving.{named, plain_entries, known, level, is_schemas};
-ghost use Rattle.dml_resolve.specs.Members.{entries_of, level_at, given, followed, adds, value_weight, IsWithin, IsSmall};
+ghost use Rattle.dml_resolve.specs.Members.{entries_of, level_at, given, followed, adds, value_weight, IsKeysOf, IsWithin, IsSmall};
 
 use crate::PathFault;
 use crate::counter::Counter;
 use crate::members::{Member, first_list, in_root, push_found, push_missing, with_key};
+use crate::own_keys::made_once;
 use crate::paths::{components, is_find, is_schemas, is_substitution};
 use dml_tree::{Attribute, Place, Tree, Value};
 use std::alloc::Global;
+use std::collections::BTreeSet;
 
 /// The level of a list in which `left` substitutions may be followed in one another. An attribute
 /// `schemas` is kept as written where the list is the root list.
@@ -29,6 +31,7 @@ pub fn level<'a>(
     ensures within { IfOk result (λ members. All (IsWithin root.now left written.now is_root) members.items) }
 {
     let mut members = Vec::new(alloc);
+    let mut keys = None;
     for attribute in written.attributes() {
         add(
             root,
@@ -36,6 +39,7 @@ pub fn level<'a>(
             attribute,
             left,
             is_root,
+            &mut keys,
             &mut members,
             counter,
         )?;
@@ -51,19 +55,22 @@ fn add<'a>(
     attribute: &'a Attribute,
     left: u32,
     is_root: bool,
+    keys: &mut Option<BTreeSet<&'a [u8]>>,
     members: &mut Vec<Member<'a>>,
     counter: &mut Counter,
 ) -> Result<(), PathFault>
     requires small { weight written.now ≤ weight root.now }
     requires lighter { value_weight attribute.now.value < weight written.now }
+    requires keys { IfSome keys.old (IsKeysOf written.now) }
     ensures added { OnOk result (adds (entries_of root.now members.old.items) (given root.now left is_root written.now attribute.now counter.old.counted) ≡ Ok (entries_of root.now members.new.items, counter.new.counted)) }
     ensures fault { IfErr result (λ fault. (fault ≡ PathFault.Memory) ⊎ (given root.now left is_root written.now attribute.now counter.old.counted ≡ Err fault)) }
     ensures rises { OnOk result (counter.old.counted ≤ counter.new.counted) }
     ensures within { OnOk result (All (IsWithin root.now left written.now is_root) members.old.items → All (IsWithin root.now left written.now is_root) members.new.items) }
+    ensures keys { OnOk result (IfSome keys.new (IsKeysOf written.now)) }
 {
     let key = attribute.key.as_bytes();
     if is_substitution(key) {
-        return follow(root, written, attribute, left, members, counter);
+        return follow(root, written, attribute, left, keys, members, counter);
     }
     members.push(Member {
         attribute,
@@ -88,15 +95,18 @@ fn follow<'a>(
     written: &'a Tree,
     attribute: &'a Attribute,
     left: u32,
+    keys: &mut Option<BTreeSet<&'a [u8]>>,
     members: &mut Vec<Member<'a>>,
     counter: &mut Counter,
 ) -> Result<(), PathFault>
     requires small { weight written.now ≤ weight root.now }
     requires lighter { 0 < weight written.now }
+    requires keys { IfSome keys.old (IsKeysOf written.now) }
     ensures added { OnOk result (adds (entries_of root.now members.old.items) (followed root.now left written.now attribute.now counter.old.counted) ≡ Ok (entries_of root.now members.new.items, counter.new.counted)) }
     ensures fault { IfErr result (λ fault. (fault ≡ PathFault.Memory) ⊎ (followed root.now left written.now attribute.now counter.old.counted ≡ Err fault)) }
     ensures rises { OnOk result (counter.old.counted ≤ counter.new.counted) }
     ensures within { OnOk result ((is_root : Bool) → All (IsWithin root.now left written.now is_root) members.old.items → All (IsWithin root.now left written.now is_root) members.new.items) }
+    ensures keys { OnOk result (IfSome keys.new (IsKeysOf written.now)) }
 {
     let alloc = *members.allocator();
     let place = attribute.place;
@@ -117,7 +127,9 @@ fn follow<'a>(
     }
     let list = first_list(found.as_slice(), place)?;
     let included = level(alloc, root, list, left - 1, false, counter)?;
-    push_missing(included.as_slice(), written, members)?;
+    let own = made_once(alloc, written, keys.take())?;
+    push_missing(included.as_slice(), written, &own, members)?;
+    *keys = Some(own);
     Ok(())
 }
 

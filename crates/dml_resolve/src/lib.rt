@@ -8,6 +8,7 @@ mod counter;
 mod expanding;
 mod levels;
 mod members;
+mod own_keys;
 mod paths;
 mod places;
 mod resolving;

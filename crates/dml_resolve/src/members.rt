@@ -1,13 +1,14 @@
 //! The attributes of a level: where they are written, and what their lists are resolved to.
 ghost use Rattle.std.specs.Prelude.{◌≡◌, ℕ, ◌≤◌, ◌++◌, Ok, Err, IfOk, IfErr, OnOk, All, map, filter};
 ghost use Rattle.dml_tree.specs.Attributes.{Attributes, weight};
-ghost use Rattle.dml_resolve.specs.Resolving.{first_list, plain_entries, level, same_key, has_plain};
-ghost use Rattle.dml_resolve.specs.Members.{entries_of, is_keyed, is_missing, moved_to, plain_entry, value_weight, IsSmall};
+ghost use Rattle.dml_resolve.specs.Resolving.{first_list, plain_entries, level, same_key};
+ghost use Rattle.dml_resolve.specs.Members.{entries_of, is_keyed, is_missing, moved_to, plain_entry, value_weight, IsKeysOf, IsSmall};
 
 use crate::PathFault;
 use crate::paths::is_substitution;
 use dml_tree::{Attribute, Place, Tree, Value};
 use std::alloc::{AllocError, Global};
+use std::collections::BTreeSet;
 
 /// An attribute of a level.
 #[derive(Clone, Copy)]
@@ -111,27 +112,16 @@ pub fn push_found<'a>(
 pub fn push_missing<'a>(
     included: &[Member<'a>],
     written: &Tree,
+    keys: &BTreeSet<&[u8]>,
     members: &mut Vec<Member<'a>>,
 ) -> Result<(), AllocError>
+    requires { IsKeysOf written.now keys.now }
     ensures { OnOk result (members.new.items ≡ members.old.items ++ filter (is_missing written.now) included.now) }
 {
     for member in included {
-        if !has_plain(written, member.attribute.key.as_bytes()) {
+        if !keys.contains(member.attribute.key.as_bytes()) {
             members.push(*member)?;
         }
     }
     Ok(())
-}
-
-// Whether a plain attribute of this key is written in the list.
-fn has_plain(written: &Tree, key: &[u8]) -> bool
-    ensures { result ≡ has_plain written.now key.now }
-{
-    for attribute in written.attributes() {
-        let own = attribute.key.as_bytes();
-        if !is_substitution(own) && own == key {
-            return true;
-        }
-    }
-    false
 }

@@ -119,7 +119,7 @@ follow-returns-clause-within t c = λ is_root old.
 
 pub level-add-requires : goal.level-add-requires
 level-add-requires t c =
-    (omega (arith, c.decreases), (c.requires, lighter c.args.written.now c.attributes-attribute-items.result.now c.loop-attribute.attribute-index c.attribute-item.result c.attributes-attribute-items.ensures c.loop-attribute-test.true c.attribute-item.is))
+    (omega (arith, c.decreases), (c.requires, (lighter c.args.written.now c.attributes-attribute-items.result.now c.loop-attribute.attribute-index c.attribute-item.result c.attributes-attribute-items.ensures c.loop-attribute-test.true c.attribute-item.is, c.loop-attribute.invariant.keys)))
 
 pub level-returns-in_err-add-clause-fault : goal.level-returns-in_err-add-clause-fault
 level-returns-in_err-add-clause-fault t c =
@@ -139,6 +139,7 @@ level-loop-attribute-preserved t c =
       level = sym (levels_step root c.args.left c.args.is_root written items c.loop-attribute.attribute-index c.attribute-item.result (entries_of root c.loop-attribute.members.items) _ c.loop-attribute.counter.counted _ c.loop-attribute-test.true c.attribute-item.is c.in_ok-add.ensures.added) ∙ c.loop-attribute.invariant.level;
       rises = omega (arith, c.in_ok-add.ensures.rises, c.loop-attribute.invariant.rises);
       within = c.in_ok-add.ensures.within c.loop-attribute.invariant.within;
+      keys = c.in_ok-add.ensures.keys;
     }
 
 pub level-returns-clause-level : goal.level-returns-clause-level

@@ -1,8 +1,9 @@
 use Rattle.std.proofs.Common.{◌≡◌, ◌≤◌, ◌+◌, ◌*◌, List, ℕ, Bor, drop, map, All}
+use Rattle.std.specs.Prelude.{IfSome}
 use Rattle.dml_tree.specs.Attributes.{weight}
 use Rattle.dml_tree.specs.TreeView.{tree_of}
 use Rattle.dml_resolve.specs.Resolving.{named_from, level}
-use Rattle.dml_resolve.specs.Members.{entries_of, adds, IsWithin, IsSmall}
+use Rattle.dml_resolve.specs.Members.{entries_of, adds, IsKeysOf, IsWithin, IsSmall}
 use Rattle.dml_resolve.proofs.LevelSteps.{levels}
 use Rattle.dml_resolve.proofs.levels.+levels.Given as goal
 
@@ -23,6 +24,7 @@ invariant-level-loop-attribute l = record {
   level : adds (entries_of l.root l.members.items) (levels l.root l.left l.is_root l.written (tree_of (drop l.attribute-index l.attribute-items)) l.counter.counted) ≡ levels l.root l.left l.is_root l.written (tree_of l.attribute-items) l.initial.counter.counted;
   rises : l.initial.counter.counted ≤ l.counter.counted;
   within : All (IsWithin l.root l.left l.written l.is_root) l.members.items;
+  keys : IfSome l.keys (IsKeysOf l.written);
 }
 
 abbrev pub invariant-named-loop-component : goal.invariant-named-loop-component
