@@ -1,6 +1,7 @@
 pub mod Acting
 pub mod BothWays
 pub mod CountLines
+pub mod DoneWell
 pub mod Endings
 pub mod FaultPlaces
 pub mod FilesRead

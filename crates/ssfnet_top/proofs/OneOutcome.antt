@@ -242,7 +242,7 @@ tree_begins : (asked : Asked) (tree : Result Attributes Refusal) (below : ℕ) (
 tree_begins asked (Ok tree) below text due p q = command_begins asked.command asked tree below text due p q
 tree_begins asked (Err r) below text due p q = absurd p
 
-asked_agrees : (files : Files) (asked : Option Asked) (due other : Due) → IsAskedDue files asked due → IsAskedDue files asked other → Agree due other
+pub asked_agrees : (files : Files) (asked : Option Asked) (due other : Due) → IsAskedDue files asked due → IsAskedDue files asked other → Agree due other
 asked_agrees files None due other p q = inl (p ∙ sym q)
 asked_agrees files (Some asked) due other p q =
     let same : p.0 ≡ q.0 = files_once files 0 asked.files p.0 q.0 p.1 q.1 in

@@ -1,12 +1,13 @@
 //! Facts on the definitions alone. Each function's contract is one, and its body is empty.
-ghost use Rattle.std.specs.Prelude.{◌≡◌, ℕ, List, Some};
-ghost use Rattle.sim_base.specs.Outside.{Files};
+ghost use Rattle.std.specs.Prelude.{◌≡◌, ◌⊎◌, ℕ, List, Option, Some};
+ghost use Rattle.sim_base.specs.Outside.{Files, Rose};
 ghost use Rattle.model_gen.specs.Campus.{campus_text};
 ghost use Rattle.command_words.specs.declared.command.Align.{Align as AlignValue};
 ghost use Rattle.command_words.specs.declared.command.Command.TheVariants as commands;
 ghost use Rattle.command_words.specs.Words.{Asked, asked_of_words};
-ghost use Rattle.ssfnet_top.specs.Outcome.{Due, done, IsOutcome, IsMidway};
+ghost use Rattle.ssfnet_top.specs.Outcome.{Due, done, IsAskedDue, IsOutcome, IsMidway};
 ghost use Rattle.ssfnet_top.specs.Agreeing.{Agree, Begins};
+ghost use Rattle.ssfnet_top.specs.Ending.{Outside, Ends, IsMet};
 
 /// The same words with the same files have at most one outcome. But where a run on timelines ends
 /// since the budget of one ends, and that of another ends at the same time, each of the two may be told: the rest of the
@@ -39,4 +40,12 @@ pub fn workers_change_nothing()
 /// The outcome of the words of `gen` is the text of a campus, whatever the files are.
 pub fn campuses_need_no_files()
     ensures { (files : Files) (words : List (List ℕ)) (asked : Asked) (seed size : ℕ) → asked_of_words words ≡ Some asked → asked.command ≡ commands.Gen seed size → IsOutcome files words (done (campus_text seed size)) }
+{}
+
+/// What is due with status 0 is done, or there was no memory: where an outcome with status 0 is due, a call in which no count
+/// of faults of the library or a sink rose, and no worker was stopped, ends with 0, and all that is due is written, or with 1.
+pub fn what_is_due_well_is_done()
+    ensures { (files : Files) (asked : Option Asked) (due : Due) (status : ℕ) (before after : Outside) → IsAskedDue files asked due → due.status ≡ 0 → Ends files asked status before after
+        → ¬ Rose before.read_faults after.read_faults → ¬ Rose before.out_faults after.out_faults → ¬ Rose before.err_faults after.err_faults → ¬ (status ≡ 9)
+        → ((status ≡ 0) × IsMet due status before after) ⊎ (status ≡ 1) }
 {}
