@@ -1,6 +1,7 @@
 pub mod Lists
 pub mod Values
 pub mod Taking
+pub mod Stepping
 pub mod Executing
 pub mod Posting
 pub mod Posts

@@ -21,8 +21,9 @@ use Rattle.worker_hands.specs.Hands.{HandView, IsAsked, IsToldOn}
 use Rattle.worker_hands.specs.Asked.{is_step, AreOf, runs_in, last_answer, WasNotEnabled}
 use Rattle.worker_hands.proofs.Asking.{told_then}
 use Rattle.worker_turns.specs.Working.{HasLost, HasLostMore}
-use Rattle.worker_turns.specs.Turning.{IsPost, ArePostsOn, ArePostsAt, ArePosts}
+use Rattle.worker_turns.specs.Turning.{IsPost, AreSteps, ArePostsOn, ArePostsAt, ArePosts}
 use Rattle.worker_turns.proofs.Values.{more_then}
+use Rattle.worker_turns.proofs.Stepping.{still_then}
 use Rattle.worker_turns.proofs.Lists.{asked_both, asked_more, asked_then, asked_nothing, last_later, last_earlier, last_none, runs_of_both, all_wider, all_of_both}
 
 lower : (j k : ℕ) → j < k + 1 → (j < k) ⊎ (j ≡ k)
@@ -105,15 +106,17 @@ pub record ArePostedUpTo {B S P : Type 0} (valid : B → Validity S) (carried : 
   pub has : HasTimeline valid carried r key w i own
   pub tries : HasLostMore key v w
   pub told : IsToldOn old new
+  pub steps : IsAsked old new (AreSteps key 0 i)
   pub asked : IsAsked old new (ArePosts key n i v w)
 
 module _ {B S P : Type 0} (valid : B → Validity S) (carried : B → P → Type 0) (r : B → Reaction S P) (key : CoreView B S P) (k i : ℕ) (v w : View) (own : Held (Share B S P)) (h0 h1 : HandView)
     (so : ArePostedUpTo valid carried r key k i v w own h0 h1) where
-  pub up_to_more : (z : View) (own_after : Held (Share B S P)) (h2 : HandView) → HasTimeline valid carried r key z i own_after → HasLostMore key w z → IsToldOn h1 h2 → IsAsked h1 h2 (ArePostsAt key k i w z)
+  pub up_to_more : (z : View) (own_after : Held (Share B S P)) (h2 : HandView) → HasTimeline valid carried r key z i own_after → HasLostMore key w z → IsToldOn h1 h2 → IsAsked h1 h2 (AreSteps key 0 i) → IsAsked h1 h2 (ArePostsAt key k i w z)
       → ArePostedUpTo valid carried r key (k + 1) i v z own_after h0 h2
-  up_to_more z own_after h2 has tries told asked = record {
+  up_to_more z own_after h2 has tries told steps asked = record {
     has = has;
     tries = more_then key v w z so.tries tries;
     told = told_then h0 h1 h2 so.told told;
+    steps = still_then key i h0 h1 h2 so.steps steps;
     asked = posts_more key i k v w z h0 h1 h2 so.tries tries so.asked asked;
   }

@@ -36,6 +36,10 @@ IsPost i step = (c : ℕ) × (step ≡ Post i c)
 abbrev pub IsMeeting : ℕ → Step → Type 0
 IsMeeting i step = (step ≡ Enter i) ⊎ ((step ≡ Report i) ⊎ (step ≡ Cross))
 
+-- a turn executes at most so many events
+abbrev pub most_executed : ℕ
+most_executed = 1024
+
 -- timeline i executed, while so many events were left to be
 pub record AreRuns (left after i : ℕ) (made : List Made) : Type 0 where
   pub all : AreOf (Execute i) made
@@ -51,6 +55,23 @@ pub record AreMeetings (i : ℕ) (made : List Made) : Type 0 where
   pub cross : IsUncrossed (last_answer Cross made)
 
 module _ {B S P : Type 0} (key : CoreView B S P) where
+  -- timeline i posts on the channel of an end of which it is the sender
+  pub record IsPostOut (i : ℕ) (step : Step) : Type 0 where
+    pub k : ℕ
+    pub end : CrossEnd
+    pub is : slice_get key.ends k ≡ Some end
+    pub sender : end.sender ≡ i
+    pub post : step ≡ Post i end.channel
+
+  -- a step of timeline i: it executes, takes its mail, posts, enters or reports; or the barrier is crossed
+  abbrev pub IsOfTurn : ℕ → Step → Type 0
+  IsOfTurn i step = (step ≡ Execute i) ⊎ ((step ≡ Take i) ⊎ (IsPostOut i step ⊎ IsMeeting i step))
+
+  -- steps of timeline i alone, by which at most so many events were executed
+  pub record AreSteps (most i : ℕ) (made : List Made) : Type 0 where
+    pub all : AreAll (IsOfTurn i) made
+    pub runs : runs_in made ≤ most
+
   -- timeline i took its mail, where no try for that was lost
   pub record AreTakes (i : ℕ) (v w : View) (made : List Made) : Type 0 where
     pub all : AreOf (Take i) made

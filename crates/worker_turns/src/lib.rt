@@ -1,7 +1,7 @@
 //! Workers: each takes turns at the timelines of a run whose parts lie in a table of turns.
 //!
-//! Contracts cite `specs/Passes.antt` (a worker's pass) and `specs/Working.antt` (when a worker has done what there was to
-//! do).
+//! Contracts cite `specs/Passes.antt` (a worker's pass), `specs/Working.antt` (when a worker has done what there was to
+//! do) and `specs/Turning.antt` (of which steps a turn is made).
 #![tactic(auto)]
 
 mod task;

@@ -13,7 +13,7 @@ ghost use Rattle.worker_hands.specs.declared.hand.Answer.TheVariants.{Executed};
 ghost use Rattle.worker_hands.specs.Hands.{IsAsked, IsToldOn};
 ghost use Rattle.worker_hands.specs.Asked.{AreOf, runs_in, last_answer, WasNotEnabled, IsExhausted, IsUncrossed};
 ghost use Rattle.worker_turns.specs.Working.{HasLostMore};
-ghost use Rattle.worker_turns.specs.Turning.{AreRuns, AreMeetings, AreTakes, ArePostsOn, ArePostsAt, ArePosts, AreMeetingsOr, AreAtBarrier, CanTake, HasTakenOn, CanExecute, HasExecutedOn, CanPost, HasPostedOn, HasEnteredOn, CanReport, HasReportedOn, CanCross, HasCrossedOn};
+ghost use Rattle.worker_turns.specs.Turning.{AreSteps, AreRuns, AreMeetings, AreTakes, ArePostsOn, ArePostsAt, ArePosts, AreMeetingsOr, AreAtBarrier, CanTake, HasTakenOn, CanExecute, HasExecutedOn, CanPost, HasPostedOn, HasEnteredOn, CanReport, HasReportedOn, CanCross, HasCrossedOn};
 
 use barrier_window::Barrier;
 use share_turns::{RunTable, Share};
@@ -46,6 +46,7 @@ pub(crate) fn take<B: Behaviour>(
     ensures has { HasTimeline B.valid B.carried B.reaction (key_of table.now.turns.now).value (view_of pass.new) table.now.number own.new }
     ensures tries { HasLostMore (key_of table.now.turns.now).value (view_of pass.old) (view_of pass.new) }
     ensures told { IsToldOn hand.old hand.new }
+    ensures steps { IsAsked hand.old hand.new (AreSteps (key_of table.now.turns.now).value 0 table.now.number) }
     ensures done { OnOk result (IsAsked hand.old hand.new (AreTakes (key_of table.now.turns.now).value table.now.number (view_of pass.old) (view_of pass.new))) }
 {
     let Some(mut mail) = table.bring_mail(pass, table.number) else {
@@ -75,6 +76,7 @@ pub(crate) fn execute<B: Behaviour>(
     ensures has { HasTimeline B.valid B.carried B.reaction (key_of table.now.turns.now).value (view_of pass.new) table.now.number own.new }
     ensures tries { HasLostNone (view_of pass.old) (view_of pass.new) }
     ensures told { IsToldOn hand.old hand.new }
+    ensures asked { IsAsked hand.old hand.new (λ made. AreOf (Execute table.now.number) made × (runs_in made + left.new ≡ left.old)) }
     ensures left { left.new ≤ left.old }
     ensures done { OnOk result (IsAsked hand.old hand.new (AreRuns left.old left.new table.now.number)) }
     ensures over { result ≡ Err Halt.Over → IsAsked hand.old hand.new (λ made. last_answer (Execute table.now.number) made ≡ Some (Executed WasOver)) }
@@ -99,6 +101,7 @@ pub(crate) fn post<B: Behaviour>(
     ensures has { HasTimeline B.valid B.carried B.reaction (key_of table.now.turns.now).value (view_of pass.new) table.now.number own.new }
     ensures tries { HasLostMore (key_of table.now.turns.now).value (view_of pass.old) (view_of pass.new) }
     ensures told { IsToldOn hand.old hand.new }
+    ensures steps { IsAsked hand.old hand.new (AreSteps (key_of table.now.turns.now).value 0 table.now.number) }
     ensures done { OnOk result (IsAsked hand.old hand.new (ArePosts (key_of table.now.turns.now).value (length (key_of table.now.turns.now).value.ends) table.now.number (view_of pass.old) (view_of pass.new))) }
 {
     for (place, end) in table.ends.iter().enumerate() {
@@ -125,6 +128,7 @@ fn post_at<B: Behaviour>(
     ensures has { HasTimeline B.valid B.carried B.reaction (key_of table.now.turns.now).value (view_of pass.new) table.now.number own.new }
     ensures tries { HasLostMore (key_of table.now.turns.now).value (view_of pass.old) (view_of pass.new) }
     ensures told { IsToldOn hand.old hand.new }
+    ensures steps { IsAsked hand.old hand.new (AreSteps (key_of table.now.turns.now).value 0 table.now.number) }
     ensures done { OnOk result (IsAsked hand.old hand.new (ArePostsAt (key_of table.now.turns.now).value place table.now.number (view_of pass.old) (view_of pass.new))) }
 {
     if end.sender != table.number {
@@ -152,6 +156,7 @@ fn post_on<B: Behaviour>(
     ensures has { HasTimeline B.valid B.carried B.reaction (key_of table.now.turns.now).value (view_of pass.new) table.now.number own.new }
     ensures tries { HasLostMore (key_of table.now.turns.now).value (view_of pass.old) (view_of pass.new) }
     ensures told { IsToldOn hand.old hand.new }
+    ensures steps { IsAsked hand.old hand.new (AreSteps (key_of table.now.turns.now).value 0 table.now.number) }
     ensures done { OnOk result (IsAsked hand.old hand.new (ArePostsOn (key_of table.now.turns.now).value table.now.number end.now (view_of pass.old) (view_of pass.new))) }
 {
     let Some(mut mail) = table.bring_mail(pass, end.receiver) else {
@@ -180,6 +185,7 @@ pub(crate) fn meet<B: Behaviour>(
     ensures has { HasTimeline B.valid B.carried B.reaction (key_of table.now.turns.now).value (view_of pass.new) table.now.number own.new }
     ensures tries { HasLostMore (key_of table.now.turns.now).value (view_of pass.old) (view_of pass.new) }
     ensures told { IsToldOn hand.old hand.new }
+    ensures steps { IsAsked hand.old hand.new (AreSteps (key_of table.now.turns.now).value 0 table.now.number) }
     ensures done { OnOk result (IsAsked hand.old hand.new (AreMeetingsOr (key_of table.now.turns.now).value table.now.number (view_of pass.old) (view_of pass.new))) }
 {
     let Some(mut barrier) = table.bring_barrier(pass) else {
@@ -208,6 +214,7 @@ fn meet_at<B: Behaviour>(
     ensures at { AreAtBarrier B.valid B.carried B.reaction (key_of table.now.turns.now).value (view_of pass.new) table.now.number own.new barrier.new }
     ensures tries { HasLostNone (view_of pass.old) (view_of pass.new) }
     ensures told { IsToldOn hand.old hand.new }
+    ensures steps { IsAsked hand.old hand.new (AreSteps (key_of table.now.turns.now).value 0 table.now.number) }
     ensures done { OnOk result (IsAsked hand.old hand.new (AreMeetings table.now.number)) }
 {
     if meet_once(alloc, table, pass, hand, own, barrier)? {
@@ -233,6 +240,7 @@ fn meet_once<B: Behaviour>(
     ensures at { AreAtBarrier B.valid B.carried B.reaction (key_of table.now.turns.now).value (view_of pass.new) table.now.number own.new barrier.new }
     ensures tries { HasLostNone (view_of pass.old) (view_of pass.new) }
     ensures told { IsToldOn hand.old hand.new }
+    ensures steps { IsAsked hand.old hand.new (AreSteps (key_of table.now.turns.now).value 0 table.now.number) }
     ensures done { OnOk result (IsAsked hand.old hand.new (AreMeetings table.now.number)) }
 {
     enter_share(hand, table.number, own.value(), barrier.value().barrier());

@@ -15,6 +15,7 @@ ghost use Rattle.worker_hands.specs.Hands.{IsAsked, IsToldOn};
 ghost use Rattle.worker_hands.specs.Asked.{last_answer};
 ghost use Rattle.worker_turns.specs.Passes.{pass_of};
 ghost use Rattle.worker_turns.specs.Working.{HasLost, HasLostMore, IsWorked};
+ghost use Rattle.worker_turns.specs.Turning.{most_executed, AreSteps};
 
 use crate::task::{Seen, execute, meet, post, take};
 use share_turns::{Layout, RunTable, Share};
@@ -66,6 +67,7 @@ impl Worker {
     ghost use Rattle.worker_hands.specs.Asked.{last_answer};
     ghost use Rattle.worker_turns.specs.Passes.{pass_of};
     ghost use Rattle.worker_turns.specs.Working.{HasLost, HasLostMore, IsWorked};
+    ghost use Rattle.worker_turns.specs.Turning.{most_executed, AreSteps};
 
     /// A worker with this pass.
     pub fn new(pass: Pass) -> Worker
@@ -120,10 +122,11 @@ impl Worker {
     }
 
     /// Takes a turn at a timeline: asks the gate once with the timeline's lower bound, then takes its mail, executes,
-    /// meets the barrier, and posts, where the turns of those parts are free, and gives every turn back.
+    /// meets the barrier, executes what is then before its bound, and posts, where the turns of those parts are free, and
+    /// gives every turn back. It executes at most 1,024 events.
     ///
     /// `Nothing` comes exactly where the pass's count of lost tries of the timeline rose, `Stopped` only where the gate's count of stops did.
-    /// The hand goes on telling its list while it has room.
+    /// The hand goes on telling its list while it has room, and is asked for steps of this timeline alone.
     pub fn turn<B: Behaviour + Sync, G: Gate>(
         &mut self,
         alloc: Global,
@@ -148,8 +151,9 @@ impl Worker {
         ensures stopped { result ≡ Turned.Stopped → Rose (G.stops gate.old) (G.stops gate.new) }
         ensures never_falls { G.stops gate.old ≤ G.stops gate.new }
         ensures told { IsToldOn hand.old hand.new }
+        ensures steps { IsAsked hand.old hand.new (AreSteps (key_of turns.now).value most_executed timeline) }
         ensures over { result ≡ Turned.Over → IsAsked hand.old hand.new (λ made. last_answer (Execute timeline) made ≡ Some (Executed WasOver)) }
-        ensures worked { result ≡ Turned.Worked → IsAsked hand.old hand.new (IsWorked (key_of turns.now).value MOST_EXECUTED timeline (view_of (pass_of self.old)) (view_of (pass_of self.new))) }
+        ensures worked { result ≡ Turned.Worked → IsAsked hand.old hand.new (IsWorked (key_of turns.now).value most_executed timeline (view_of (pass_of self.old)) (view_of (pass_of self.new))) }
     {
         let Some(turn) = turns.try_take(&mut self.pass, timeline) else {
             return Turned::Nothing;
@@ -191,8 +195,9 @@ impl Worker {
         ensures stopped { result ≡ Turned.Stopped → Rose (G.stops gate.old) (G.stops gate.new) }
         ensures never_falls { G.stops gate.old ≤ G.stops gate.new }
         ensures told { IsToldOn hand.old hand.new }
+        ensures steps { IsAsked hand.old hand.new (AreSteps (key_of table.now.turns.now).value most_executed table.now.number) }
         ensures over { result ≡ Turned.Over → IsAsked hand.old hand.new (λ made. last_answer (Execute table.now.number) made ≡ Some (Executed WasOver)) }
-        ensures worked { result ≡ Turned.Worked → IsAsked hand.old hand.new (IsWorked (key_of table.now.turns.now).value MOST_EXECUTED table.now.number (view_of (pass_of self.old)) (view_of (pass_of self.new))) }
+        ensures worked { result ≡ Turned.Worked → IsAsked hand.old hand.new (IsWorked (key_of table.now.turns.now).value most_executed table.now.number (view_of (pass_of self.old)) (view_of (pass_of self.new))) }
     {
         let bound = own.value().timeline().lower_bound();
         if !gate.may_go(table.number, bound) {
@@ -221,8 +226,9 @@ impl Worker {
         ensures nothing { result ≡ Turned.Nothing → ⊥ }
         ensures stopped { result ≡ Turned.Stopped → ⊥ }
         ensures told { IsToldOn hand.old hand.new }
+        ensures steps { IsAsked hand.old hand.new (AreSteps (key_of table.now.turns.now).value most_executed table.now.number) }
         ensures over { result ≡ Turned.Over → IsAsked hand.old hand.new (λ made. last_answer (Execute table.now.number) made ≡ Some (Executed WasOver)) }
-        ensures worked { result ≡ Turned.Worked → IsAsked hand.old hand.new (IsWorked (key_of table.now.turns.now).value MOST_EXECUTED table.now.number (view_of (pass_of self.old)) (view_of (pass_of self.new))) }
+        ensures worked { result ≡ Turned.Worked → IsAsked hand.old hand.new (IsWorked (key_of table.now.turns.now).value most_executed table.now.number (view_of (pass_of self.old)) (view_of (pass_of self.new))) }
     {
         match self.steps(alloc, behaviour, table, hand, own) {
             Ok(()) => Turned::Worked,
@@ -248,8 +254,9 @@ impl Worker {
         ensures pass { IsPassOf ⟦<Share<B> as Tenant>⟧ table.now.turns.now (pass_of self.new) }
         ensures has { HasTimeline B.valid B.carried B.reaction (key_of table.now.turns.now).value (view_of (pass_of self.new)) table.now.number own.new }
         ensures tries { HasLostMore (key_of table.now.turns.now).value (view_of (pass_of self.old)) (view_of (pass_of self.new)) }
-        ensures done { OnOk result (IsAsked hand.old hand.new (IsWorked (key_of table.now.turns.now).value MOST_EXECUTED table.now.number (view_of (pass_of self.old)) (view_of (pass_of self.new)))) }
+        ensures done { OnOk result (IsAsked hand.old hand.new (IsWorked (key_of table.now.turns.now).value most_executed table.now.number (view_of (pass_of self.old)) (view_of (pass_of self.new)))) }
         ensures told { IsToldOn hand.old hand.new }
+        ensures steps { IsAsked hand.old hand.new (AreSteps (key_of table.now.turns.now).value most_executed table.now.number) }
         ensures over { result ≡ Err Halt.Over → IsAsked hand.old hand.new (λ made. last_answer (Execute table.now.number) made ≡ Some (Executed WasOver)) }
     {
         let mut left = MOST_EXECUTED;

@@ -4,6 +4,7 @@ use Rattle.turn_table.specs.Turned.{key_of}
 use Rattle.worker_hands.proofs.Asking.{told_then}
 use Rattle.worker_turns.proofs.Meeting.{may_report, at_reported, may_cross, at_same, round_rises, round_kept, at_crossed}
 use Rattle.worker_turns.proofs.Working.{meetings_asked, told_three}
+use Rattle.worker_turns.proofs.Stepping.{entered_reported, entered_crossed}
 use Rattle.worker_turns.proofs.task.meet_once.Goals as goal
 
 pub report_share-requires-after_bounds : goal.report_share-requires-after_bounds
@@ -93,3 +94,12 @@ returns-then-crossed-clause-told g c = told_three c.args.hand.now c.enter_share.
 
 pub returns-else-crossed-clause-told : goal.returns-else-crossed-clause-told
 returns-else-crossed-clause-told g c = told_three c.args.hand.now c.enter_share.new.hand c.report_share.new.hand c.cross_share-crossed.new.hand c.enter_share.ensures.told c.report_share.ensures.told c.cross_share-crossed.ensures.told
+
+pub returns-in_err-report_share-clause-steps : goal.returns-in_err-report_share-clause-steps
+returns-in_err-report_share-clause-steps g c = entered_reported (key_of c.args.table.now.turns.now).value c.args.table.now.number c.args.hand.now c.enter_share.new.hand c.report_share.new.hand c.enter_share.ensures.asked c.report_share.ensures.asked
+
+pub returns-then-crossed-clause-steps : goal.returns-then-crossed-clause-steps
+returns-then-crossed-clause-steps g c = entered_crossed (key_of c.args.table.now.turns.now).value c.args.table.now.number c.args.hand.now c.enter_share.new.hand c.report_share.new.hand c.cross_share-crossed.new.hand c.enter_share.ensures.asked c.report_share.ensures.asked c.cross_share-crossed.ensures.asked
+
+pub returns-else-crossed-clause-steps : goal.returns-else-crossed-clause-steps
+returns-else-crossed-clause-steps g c = entered_crossed (key_of c.args.table.now.turns.now).value c.args.table.now.number c.args.hand.now c.enter_share.new.hand c.report_share.new.hand c.cross_share-crossed.new.hand c.enter_share.ensures.asked c.report_share.ensures.asked c.cross_share-crossed.ensures.asked

@@ -5,6 +5,8 @@ use Rattle.turn_table.specs.Turned.{key_of}
 use Rattle.share_rules.proofs.Taking.{receiver_known}
 use Rattle.worker_turns.proofs.Posting.{may_post, may_read, noted_before, posted_rises, mail_back, has_posted}
 use Rattle.worker_turns.proofs.Posts.{posts_on_asked}
+use Rattle.sync_steps.specs.declared.steps.Step.TheVariants.{Post}
+use Rattle.worker_turns.proofs.Stepping.{is_posting, steps_of}
 use Rattle.worker_turns.proofs.task.post_on.Goals as goal
 
 pub bring_mail-requires-clause-receiver : goal.bring_mail-requires-clause-receiver
@@ -65,3 +67,6 @@ pub returns-clause-done : goal.returns-clause-done
 returns-clause-done g c =
     on_ok_weaker c.post_shares-posted.result (posts_on_asked (key_of c.args.table.now.turns.now).value c.args.table.now.number c.args.end.now (view_of c.args.pass.now) (view_of c.give_mail.new.pass) c.args.hand.now c.post_shares-posted.new.hand c.post_shares-posted.ensures.asked)
     c.post_shares-posted.ensures.done
+
+pub returns-clause-steps : goal.returns-clause-steps
+returns-clause-steps g c = steps_of (key_of c.args.table.now.turns.now).value c.args.table.now.number (Post c.args.table.now.number c.args.end.now.channel) (is_posting (key_of c.args.table.now.turns.now).value c.args.table.now.number c.args.place c.args.end.now c.requires.end c.requires.sender) c.args.hand.now c.post_shares-posted.new.hand c.post_shares-posted.ensures.asked

@@ -3,6 +3,8 @@ use Rattle.std.proofs.lemmas.Result.{on_ok_weaker}
 use Rattle.turn_table.specs.Passes.{view_of}
 use Rattle.turn_table.specs.Turned.{key_of}
 use Rattle.worker_turns.proofs.Taking.{may_take, may_write, taken_up_to, mail_back, has_taken, takes_asked}
+use Rattle.sync_steps.specs.declared.steps.Step.TheVariants.{Take}
+use Rattle.worker_turns.proofs.Stepping.{is_taking, steps_of}
 use Rattle.worker_turns.proofs.task.take.Goals as goal
 
 pub take_shares-taken-requires-after_bounds : goal.take_shares-taken-requires-after_bounds
@@ -44,3 +46,6 @@ pub returns-clause-done : goal.returns-clause-done
 returns-clause-done g c =
     on_ok_weaker c.take_shares-taken.result (takes_asked (key_of c.args.table.now.turns.now).value c.args.table.now.number (view_of c.args.pass.now) (view_of c.give_mail.new.pass) c.args.hand.now c.take_shares-taken.new.hand c.take_shares-taken.ensures.asked)
     c.take_shares-taken.ensures.done
+
+pub returns-clause-steps : goal.returns-clause-steps
+returns-clause-steps g c = steps_of (key_of c.args.table.now.turns.now).value c.args.table.now.number (Take c.args.table.now.number) (is_taking (key_of c.args.table.now.turns.now).value c.args.table.now.number) c.args.hand.now c.take_shares-taken.new.hand c.take_shares-taken.ensures.asked
