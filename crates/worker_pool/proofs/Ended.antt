@@ -1,5 +1,5 @@
 -- What comes of parts where they are put together again, and how workers have ended.
-use Rattle.std.proofs.Common.{◌≡◌, ℕ, ◌<◌, length, sym, subst, arith}
+use Rattle.std.proofs.Common.{◌≡◌, ℕ, ◌<◌, length, refl, sym, subst, arith}
 use Rattle.ssf_model.specs.Reaction.{Reaction, Validity}
 use Rattle.core_rules.specs.Cores.{CoreView, IsCoreOfRun}
 use Rattle.sync_core.specs.Cores.{IsOrdered}
@@ -8,10 +8,26 @@ use Rattle.share_rules.proofs.Gathering.{still_in_time, still_rising, same_until
 use Rattle.worker_pool.specs.declared.pool.PoolEnd.{PoolEnd}
 use Rattle.worker_pool.specs.declared.pool.PoolEnd.TheVariants.{Finished, Stopped, OverBudget, Memory, Crossed}
 use Rattle.worker_pool.specs.Carried.{AreGathered, AreCarriedOn}
-use Rattle.worker_pool.specs.Ends.{IsTrueEnd}
+use Rattle.worker_pool.specs.Ends.{IsTrueEnd, AreNotStopped, IsStopFirst}
 use Rattle.worker_pool.proofs.Onward.{carried_by_gathering}
 
+-- where no worker was stopped, and the end says so
+pub not_stopped : (stopped : ℕ → Type 0) (end : PoolEnd) → IsStopFirst stopped end → ((w : ℕ) → end ≡ Stopped w → ⊥) → AreNotStopped stopped
+not_stopped stopped Finished q none = q
+not_stopped stopped (Stopped w) q none = λ k s. none w refl
+not_stopped stopped (OverBudget i) q none = q
+not_stopped stopped Memory q none = q
+not_stopped stopped Crossed q none = q
+
 module _ {B S P : Type 0} where
+  -- an end that no gate made, where no worker was stopped
+  pub no_stop : (stopped : ℕ → Type 0) (last : ℕ) (core : CoreView B S P) (end : PoolEnd) → IsTrueEnd (λ w. ⊥) last core end → AreNotStopped stopped → IsStopFirst stopped end
+  no_stop stopped last core Finished q none = none
+  no_stop stopped last core (Stopped w) q none = absurd q
+  no_stop stopped last core (OverBudget i) q none = none
+  no_stop stopped last core Memory q none = none
+  no_stop stopped last core Crossed q none = none
+
   -- an end that no gate made is one where some gate may have been closed
   pub any_end : (stopped : ℕ → Type 0) (last : ℕ) (core : CoreView B S P) (end : PoolEnd) → IsTrueEnd (λ w. ⊥) last core end → IsTrueEnd stopped last core end
   any_end stopped last core Finished q = q

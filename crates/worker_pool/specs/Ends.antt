@@ -1,16 +1,32 @@
 -- How workers have ended.
-use Rattle.std.specs.Prelude.{ℕ, ◌≡◌, ◌≤◌, true, false, List, Some, slice_get}
-use Rattle.worker_turns.specs.declared.worker.Turned.TheVariants.{Stopped as WasStopped}
+use Rattle.std.specs.Prelude.{ℕ, ◌≡◌, ◌<◌, ◌≤◌, true, false, List, Some, slice_get}
 use Rattle.core_rules.specs.Cores.{CoreView}
 use Rattle.core_rules.specs.Reading.{BudgetEndsIn}
 use Rattle.sync_core.specs.Driving.{EndsFirstAt}
 use Rattle.worker_pool.specs.declared.lane.Lane.{Lane}
+use Rattle.worker_pool.specs.Lanes.{WasStopped}
 use Rattle.worker_pool.specs.declared.pool.PoolEnd.{PoolEnd}
 use Rattle.worker_pool.specs.declared.pool.PoolEnd.TheVariants.{Finished, Stopped, OverBudget, Memory, Crossed}
 
 -- the worker of lane w was stopped
-abbrev pub WasStoppedIn : {G : Type 0} → List (Lane G) → ℕ → Type 0
-WasStoppedIn {G} lanes w = (lane : Lane G) × (slice_get lanes w ≡ Some lane) × (lane.last ≡ WasStopped)
+abbrev pub WasStoppedIn : {G : Type 0} → (G → ℕ) → List (Lane G) → ℕ → Type 0
+WasStoppedIn {G} stops lanes w = (lane : Lane G) × (slice_get lanes w ≡ Some lane) × WasStopped stops lane
+
+-- this is the first of those that were stopped
+abbrev pub IsFirstStopped : (ℕ → Type 0) → ℕ → Type 0
+IsFirstStopped stopped w = stopped w × ((k : ℕ) → k < w → stopped k → ⊥)
+
+-- none was stopped
+abbrev pub AreNotStopped : (ℕ → Type 0) → Type 0
+AreNotStopped stopped = (k : ℕ) → stopped k → ⊥
+
+-- a stop goes before all else
+abbrev pub IsStopFirst : (ℕ → Type 0) → PoolEnd → Type 0
+IsStopFirst stopped Finished = AreNotStopped stopped
+IsStopFirst stopped (Stopped w) = IsFirstStopped stopped w
+IsStopFirst stopped (OverBudget i) = AreNotStopped stopped
+IsStopFirst stopped Memory = AreNotStopped stopped
+IsStopFirst stopped Crossed = AreNotStopped stopped
 
 module _ {B S P : Type 0} where
   -- the budget ends nowhere

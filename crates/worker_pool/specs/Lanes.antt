@@ -1,5 +1,5 @@
 -- What contracts say of lanes.
-use Rattle.std.specs.Prelude.{ℕ, ◌≡◌, ◌≤◌, Some, List, slice_get}
+use Rattle.std.specs.Prelude.{ℕ, ◌≡◌, ◌<◌, ◌≤◌, ◌⊎◌, Some, List, slice_get}
 use Rattle.sim_base.specs.Outside.{Rose}
 use Rattle.event_order.specs.Pending.{Among}
 use Rattle.atomic_table.specs.Seated.{TableId}
@@ -32,12 +32,31 @@ module _ {G : Type 0} (stops : G → ℕ) where
   abbrev pub HaveNotFallen : List (Lane G) → List (Lane G) → Type 0
   HaveNotFallen old new = (w : ℕ) (before after : Lane G) → slice_get old w ≡ Some before → slice_get new w ≡ Some after → stops (gate_of before) ≤ stops (gate_of after)
 
+  -- no count of the gates of the first n lanes has changed
+  abbrev pub HaveStood : ℕ → List (Lane G) → List (Lane G) → Type 0
+  HaveStood n old new = (w : ℕ) (before after : Lane G) → w < n → slice_get old w ≡ Some before → slice_get new w ≡ Some after → stops (gate_of after) ≡ stops (gate_of before)
+
   -- ---- one lane
 
-  -- the gate's count of stops has not fallen, and rose where the worker's last answer is that it was stopped
+  -- the worker has done nothing yet, and the gate's count is kept
+  pub record IsIdle (lane : Lane G) : Type 0 where
+    pub last : lane.last ≡ Nothing
+    pub counted : lane.stops_before ≡ stops (gate_of lane)
+
+  -- the gate is the same
+  pub record IsCleared (before after : Lane G) : Type 0 where
+    pub gate : gate_of after ≡ gate_of before
+    pub idle : IsIdle after
+
+  -- the gate's count of stops has not fallen, and rose where the worker's last answer is that it was stopped; what it was is kept
   pub record IsCarried (before after : Lane G) : Type 0 where
     pub up : stops (gate_of before) ≤ stops (gate_of after)
     pub stopped : after.last ≡ Stopped → Rose (stops (gate_of before)) (stops (gate_of after))
+    pub counted : after.stops_before ≡ stops (gate_of before)
+
+  -- the worker was stopped: its last answer says so, or its gate's count is above the one that was kept
+  abbrev pub WasStopped : Lane G → Type 0
+  WasStopped lane = (lane.last ≡ Stopped) ⊎ (lane.stops_before < stops (gate_of lane))
 
 module _ {G : Type 0} where
   -- the law holds of each lane
@@ -48,25 +67,17 @@ module _ {G : Type 0} where
   abbrev pub EachBecame : (Lane G → Lane G → Type 0) → List (Lane G) → List (Lane G) → Type 0
   EachBecame law old new = (w : ℕ) (before after : Lane G) → slice_get old w ≡ Some before → slice_get new w ≡ Some after → law before after
 
-  -- the worker has done nothing yet
-  abbrev pub IsIdle : Lane G → Type 0
-  IsIdle lane = lane.last ≡ Nothing
-
   -- the lane has a worker, and the law holds of the worker's pass
   pub record HasPass (law : Pass → Type 0) (lane : Lane G) : Type 0 where
     pub worker : Worker
     pub here : lane.worker ≡ Some worker
     pub met : law (pass_of worker)
 
-  -- the gate is the same
-  pub record IsCleared (before after : Lane G) : Type 0 where
-    pub gate : gate_of after ≡ gate_of before
-    pub last : IsIdle after
-
   -- but for the worker nothing has changed
   pub record IsKept (before after : Lane G) : Type 0 where
     pub gate : gate_of after ≡ gate_of before
     pub last : after.last ≡ before.last
+    pub counted : after.stops_before ≡ before.stops_before
 
   -- and the lane has one of these passes
   pub record IsLent (passes : List Pass) (before after : Lane G) : Type 0 where

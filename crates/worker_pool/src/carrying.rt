@@ -53,7 +53,7 @@ pub(crate) fn carry_turns<R: Threads + Wait + Sync, B: Behaviour + Sync, G: Gate
     requires passes { All (λ p. IsPassOf ⟦<Share<B> as Tenant>⟧ turns p × IsNew p) passes.items }
     requires many { vec_len passes ≡ length lanes.old }
     requires made { made_of turns ≡ length lanes.old }
-    requires idle { EachIs IsIdle lanes.old }
+    requires idle { EachIs (IsIdle G.stops) lanes.old }
     ensures values { (counts : ℕ → ℕ) × AreHome ⟦<Share<B> as Tenant>⟧ (key_of turns) counts result.items }
     ensures lanes { EachBecame (IsCarried G.stops) lanes.old lanes.new }
 {
@@ -74,7 +74,7 @@ fn carry_lanes<R: Threads + Wait + Sync, B: Behaviour + Sync, G: Gate + Send>(
     requires workers { work.now.workers ≡ length lanes.old }
     requires few { work.now.workers < 2 ^ 32 }
     requires passes { EachIs (HasPass (IsFreeIn (table_of turns.now) (shape_of (key_of turns.now).value))) lanes.old }
-    requires idle { EachIs IsIdle lanes.old }
+    requires idle { EachIs (IsIdle G.stops) lanes.old }
     ensures passes { EachIs (HasPass (IsFreeIn (table_of turns.now) (shape_of (key_of turns.now).value))) lanes.new }
     ensures lanes { EachBecame (IsCarried G.stops) lanes.old lanes.new }
 {
@@ -87,7 +87,7 @@ fn carry_lanes<R: Threads + Wait + Sync, B: Behaviour + Sync, G: Gate + Send>(
             requires place { place < work.now.workers }
             requires few { work.now.workers < 2 ^ 32 }
             requires pass { HasPass (IsFreeIn (table_of turns.now) (shape_of (key_of turns.now).value)) lane.old }
-            requires idle { IsIdle lane.old }
+            requires idle { IsIdle G.stops lane.old }
             ensures pass { HasPass (IsFreeIn (table_of turns.entry.now) (shape_of (key_of turns.entry.now).value)) lane.new }
             ensures carried { IsCarried G.stops lane.old lane.new }
         { carry(rt, work, turns, lane, place as u32) },
@@ -105,7 +105,7 @@ fn carry<R: Wait, B: Behaviour + Sync, G: Gate>(
     requires work { CanWork B.valid B.carried B.reaction (key_of turns.now).value work.now.behaviour.now work.now.ends.now }
     requires place { place < work.now.workers }
     requires pass { HasPass (IsFreeIn (table_of turns.now) (shape_of (key_of turns.now).value)) lane.old }
-    requires idle { IsIdle lane.old }
+    requires idle { IsIdle G.stops lane.old }
     ensures pass { HasPass (IsFreeIn (table_of turns.now) (shape_of (key_of turns.now).value)) lane.new }
     ensures carried { IsCarried G.stops lane.old lane.new }
 {

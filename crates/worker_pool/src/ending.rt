@@ -5,19 +5,20 @@ ghost use Rattle.core_rules.specs.Cores.{IsCoreOfRun};
 ghost use Rattle.sync_core.specs.Driving.{EndsFirstAt};
 ghost use Rattle.timeline.specs.Holding.{low_in, is_over};
 ghost use Rattle.worker_pool.specs.Carried.{AreCarriedOn};
-ghost use Rattle.worker_pool.specs.Ends.{WasStoppedIn, IsInBudget, IsOverAt, IsTrueEnd};
+ghost use Rattle.worker_pool.specs.Lanes.{WasStopped};
+ghost use Rattle.worker_pool.specs.Ends.{WasStoppedIn, IsFirstStopped, AreNotStopped, IsStopFirst, IsInBudget, IsOverAt, IsTrueEnd};
 
 use crate::lane::Lane;
 use crate::pool::PoolEnd;
-use sim_base::Memory;
+use sim_base::{Gate, Memory};
 use ssf_model::Behaviour;
 use sync_core::{Core, CoreEnd};
 use timeline::Timeline;
 use worker_turns::Turned;
 
 /// How workers have ended, where the barrier, which was in the round `first`, is to be crossed so often; what they left is
-/// done where nothing else is due.
-pub(crate) fn end_of<B: Behaviour, G>(
+/// done where nothing else is due. A stop goes before all else.
+pub(crate) fn end_of<B: Behaviour, G: Gate>(
     core: &mut Core<B>,
     lanes: &[Lane<G>],
     ended: bool,
@@ -31,7 +32,8 @@ pub(crate) fn end_of<B: Behaviour, G>(
     requires few { length core.old.timelines < 2 ^ 32 }
     requires crossings { 1 ≤ crossings }
     ensures on { AreCarriedOn (B.valid core.old.behaviour) (B.carried core.old.behaviour) (B.reaction core.old.behaviour) core.old core.new }
-    ensures end { IsTrueEnd (WasStoppedIn lanes.now) (first + crossings) core.new result }
+    ensures end { IsTrueEnd (WasStoppedIn G.stops lanes.now) (first + crossings) core.new result }
+    ensures first { IsStopFirst (WasStoppedIn G.stops lanes.now) result }
 {
     if let Some(worker) = stopped_in(lanes) {
         return PoolEnd::Stopped(worker);
@@ -71,25 +73,29 @@ fn drive_on<B: Behaviour>(core: &mut Core<B>) -> PoolEnd
 }
 
 /// The first lane whose worker was stopped.
-fn stopped_in<G>(lanes: &[Lane<G>]) -> Option<u32>
+fn stopped_in<G: Gate>(lanes: &[Lane<G>]) -> Option<u32>
     requires { length lanes.now < 2 ^ 32 }
-    ensures { IfSome result (λ w. WasStoppedIn lanes.now w) }
+    ensures some { IfSome result (λ w. IsFirstStopped (WasStoppedIn G.stops lanes.now) w) }
+    ensures none { IfNone result (AreNotStopped (WasStoppedIn G.stops lanes.now)) }
 {
     for place in 0..lanes.len() {
-        if was_stopped(lanes[place].last) {
+        if was_stopped(&lanes[place]) {
             return Some(place as u32);
         }
     }
     None
 }
 
-/// Whether a worker was stopped by its gate.
-fn was_stopped(turned: Turned) -> bool
-    ensures { result ≡ true → turned ≡ Turned.Stopped }
+/// Whether the worker of a lane was stopped by its gate.
+fn was_stopped<G: Gate>(lane: &Lane<G>) -> bool
+    ensures yes { result ≡ true → WasStopped G.stops lane.now }
+    ensures no { result ≡ false → WasStopped G.stops lane.now → ⊥ }
 {
-    match turned {
+    match lane.last {
         Turned::Stopped => true,
-        Turned::Worked | Turned::Nothing | Turned::Over | Turned::Memory => false,
+        Turned::Worked | Turned::Nothing | Turned::Over | Turned::Memory => {
+            lane.stops_before < lane.gate.stops()
+        }
     }
 }
 

@@ -7,6 +7,7 @@ ghost use Rattle.worker_turns.specs.declared.worker.Worker.{Worker as WorkerValu
 ghost use Rattle.worker_pool.specs.declared.lane.Lane.{Lane as LaneValue};
 ghost use Rattle.worker_pool.specs.Lanes.{EachIs, EachBecame, HasPass, IsCleared, IsKept, IsLent};
 
+use sim_base::Gate;
 use turn_table::Pass;
 use worker_turns::{Turned, Worker};
 
@@ -14,6 +15,8 @@ use worker_turns::{Turned, Worker};
 #[derive(Drop)]
 pub struct Lane<G> {
     pub(crate) gate: G,
+    /// How often the gate had stopped a worker before the run.
+    pub(crate) stops_before: u64,
     pub(crate) worker: Option<Worker>,
     pub(crate) last: Turned,
 }
@@ -22,7 +25,7 @@ impl<G> Lane<G> {
     ghost use Rattle.std.specs.Prelude.{◌≡◌, ◌+◌, ◌<◌, ◌∷◌, ◌++◌, [], Some, vec_len, vec_capacity};
     ghost use Rattle.worker_turns.specs.Passes.{pass_of};
     ghost use Rattle.worker_turns.specs.declared.worker.Worker.{Worker as WorkerValue};
-    ghost use Rattle.worker_pool.specs.Lanes.{gate_of, HasPass, IsCleared, IsKept};
+    ghost use Rattle.worker_pool.specs.Lanes.{gate_of, HasPass, IsKept};
 
     /// A lane with this gate.
     pub fn new(gate: G) -> Lane<G>
@@ -30,6 +33,7 @@ impl<G> Lane<G> {
     {
         Lane {
             gate,
+            stops_before: 0,
             worker: None,
             last: Turned::Nothing,
         }
@@ -40,13 +44,6 @@ impl<G> Lane<G> {
         ensures { result.now ≡ gate_of self.now }
     {
         &self.gate
-    }
-
-    /// Forgets the last answer.
-    fn clear(&mut self)
-        ensures { IsCleared self.old self.new }
-    {
-        self.last = Turned::Nothing;
     }
 
     /// Lends the lane a worker with this pass.
@@ -72,13 +69,21 @@ impl<G> Lane<G> {
     }
 }
 
-/// Forgets the last answers.
-pub(crate) fn clear_all<G>(lanes: &mut [Lane<G>])
-    ensures { EachBecame IsCleared lanes.old lanes.new }
+/// Forgets the last answers, and keeps how often each gate has stopped a worker.
+pub(crate) fn clear_all<G: Gate>(lanes: &mut [Lane<G>])
+    ensures { EachBecame (IsCleared G.stops) lanes.old lanes.new }
 {
     for place in 0..lanes.len() {
-        lanes[place].clear();
+        clear(&mut lanes[place]);
     }
+}
+
+/// Forgets the last answer, and keeps how often the gate has stopped a worker.
+fn clear<G: Gate>(lane: &mut Lane<G>)
+    ensures { IsCleared G.stops lane.old lane.new }
+{
+    lane.last = Turned::Nothing;
+    lane.stops_before = lane.gate.stops();
 }
 
 /// Lends each lane a worker with one of these passes.

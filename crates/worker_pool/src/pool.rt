@@ -10,7 +10,7 @@ ghost use Rattle.share_rules.specs.Runs.{OfItsRuns};
 ghost use Rattle.share_rules.specs.Places.{shape_of};
 ghost use Rattle.turn_table.specs.Shapes.{words_in};
 ghost use Rattle.turn_table.specs.Rule.{AreHome};
-ghost use Rattle.worker_pool.specs.Lanes.{HasStopped, HaveNotFallen, EachIs, EachBecame, IsIdle, IsCarried};
+ghost use Rattle.worker_pool.specs.Lanes.{HasStopped, HaveNotFallen, HaveStood, EachIs, EachBecame, IsIdle, IsCarried};
 ghost use Rattle.worker_pool.specs.Carried.{AreSince, AreGathered, AreCarriedOn, CanWork};
 
 use crate::carrying::{MOST_WORKERS, Work, carry_turns};
@@ -32,7 +32,7 @@ use turn_table::{Tenant, Turns};
 pub enum PoolEnd {
     /// The barrier has ended.
     Finished,
-    /// The gate of this worker is closed.
+    /// The gate of this worker is closed, the first such one.
     Stopped(u32),
     /// The budget ends at this timeline, the first such one.
     OverBudget(u32),
@@ -53,6 +53,9 @@ pub struct Pool<B: Behaviour> {
 /// closed, there is no memory, or the barrier was crossed so often. What workers leave is then done on this thread, unless
 /// a gate was closed, there was no memory, or the barrier was crossed so often.
 ///
+/// `Stopped` goes before all other answers: it names the first worker whose gate's count of stops rose, and where it does not
+/// come no gate's count did.
+///
 /// `Memory` also comes where there are more than 10^9 timelines, or channels between them.
 pub fn run_workers<R: Threads + Wait + Sync, B: Behaviour + Sync, G: Gate + Send>(
     rt: &R,
@@ -72,6 +75,8 @@ pub fn run_workers<R: Threads + Wait + Sync, B: Behaviour + Sync, G: Gate + Send
     ensures safe { safe_bound_in core ≤ safe_bound_in result.core }
     ensures finished { result.end ≡ PoolEnd.Finished → result.core.barrier.ended ≡ true }
     ensures stopped { (w : ℕ) → result.end ≡ PoolEnd.Stopped w → HasStopped G.stops w lanes.old lanes.new }
+    ensures first { (w : ℕ) → result.end ≡ PoolEnd.Stopped w → HaveStood G.stops w lanes.old lanes.new }
+    ensures unstopped { ((w : ℕ) → result.end ≡ PoolEnd.Stopped w → ⊥) → HaveStood G.stops (length lanes.old) lanes.old lanes.new }
     ensures over { (i : ℕ) → result.end ≡ PoolEnd.OverBudget i → (result.core.barrier.ended ≡ false) × EndsFirstAt result.core i }
     ensures memory { result.end ≡ PoolEnd.Memory → (i : ℕ) → BudgetEndsIn result.core i → ⊥ }
     ensures crossed { result.end ≡ PoolEnd.Crossed → core.barrier.round + crossings ≤ result.core.barrier.round }
@@ -141,7 +146,7 @@ fn carry_parts<R: Threads + Wait + Sync, B: Behaviour + Sync, G: Gate + Send>(
     requires ordered { IsOrdered (core_of parts) }
     requires some { 1 ≤ length lanes.old }
     requires few { length lanes.old ≤ MOST_WORKERS }
-    requires idle { EachIs IsIdle lanes.old }
+    requires idle { EachIs (IsIdle G.stops) lanes.old }
     ensures gathered { AreGathered (B.valid parts.behaviour) (B.carried parts.behaviour) (B.reaction parts.behaviour) (core_of parts) (core_of result.0) }
     ensures lanes { EachBecame (IsCarried G.stops) lanes.old lanes.new }
 {
@@ -206,7 +211,7 @@ fn carry_values<R: Threads + Wait + Sync, B: Behaviour + Sync, G: Gate + Send>(
     requires workers { work.now.workers ≡ length lanes.old }
     requires few { work.now.workers < 2 ^ 32 }
     requires some { 1 ≤ length lanes.old }
-    requires idle { EachIs IsIdle lanes.old }
+    requires idle { EachIs (IsIdle G.stops) lanes.old }
     requires counts { vec_len counts ≡ words_in (shape_of about.now.value) }
     requires values { AreHome ⟦<Share<B> as Tenant>⟧ about.now (λ c. slice_index counts.items c) values.items }
     ensures values { (counts : ℕ → ℕ) × AreHome ⟦<Share<B> as Tenant>⟧ about.now counts result.0.items }

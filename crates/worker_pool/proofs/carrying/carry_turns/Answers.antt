@@ -8,7 +8,7 @@ carry_lanes-requires-clause-passes g c κs within =
     all_free (table_of c.args.turns) (shape_of (key_of c.args.turns).value) c.args.passes.items c.args.lanes.now c.lend_all.new.lanes c.lend_all.auto.lanes c.requires.passes c.lend_all.ensures.lent
 
 pub carry_lanes-requires-clause-idle : goal.carry_lanes-requires-clause-idle
-carry_lanes-requires-clause-idle g c κs within = all_idle c.args.passes.items c.args.lanes.now c.lend_all.new.lanes c.lend_all.auto.lanes c.requires.idle c.lend_all.ensures.lent
+carry_lanes-requires-clause-idle g c κs within = all_idle g.G.Gate.stops c.args.passes.items c.args.lanes.now c.lend_all.new.lanes c.lend_all.auto.lanes c.requires.idle c.lend_all.ensures.lent
 
 pub take_all_back-requires-clause-workers : goal.take_all_back-requires-clause-workers
 take_all_back-requires-clause-workers g c = λ w lane at. (let q = c.carry_lanes.ensures.passes w lane at in (q.worker, q.here))

@@ -5,7 +5,7 @@ use Rattle.worker_pool.proofs.Ended.{in_order, on_core, few_core}
 use Rattle.worker_pool.proofs.pool.carry_core.Goals as goal
 
 pub carry_parts-parts-requires-clause-idle : goal.carry_parts-parts-requires-clause-idle
-carry_parts-parts-requires-clause-idle g c κs within = cleared_idle c.args.lanes.now c.clear_all.new.lanes c.clear_all.auto.lanes c.clear_all.ensures
+carry_parts-parts-requires-clause-idle g c κs within = cleared_idle g.G.Gate.stops c.args.lanes.now c.clear_all.new.lanes c.clear_all.auto.lanes c.clear_all.ensures
 
 pub put_together-requires-clause-ordered : goal.put_together-requires-clause-ordered
 put_together-requires-clause-ordered g c κs within =
