@@ -11,6 +11,7 @@ ghost use Rattle.worker_pool.specs.Lanes.{EachIs, EachBecame, HasPass, IsFreeIn,
 ghost use Rattle.worker_pool.specs.Carried.{CanWork};
 
 use crate::lane::{Lane, lend_all, take_all_back};
+use crate::route::Route;
 use share_turns::Share;
 use sim_base::Gate;
 use ssf_model::Behaviour;
@@ -132,14 +133,14 @@ fn take_turns<R: Wait, B: Behaviour + Sync, G: Gate>(
     ensures up { G.stops gate.old ≤ G.stops gate.new }
     ensures stopped { result ≡ Turned.Stopped → Rose (G.stops gate.old) (G.stops gate.new) }
 {
-    let timelines = turns.places() / 2;
     let mut hand = Hand::plain(work.alloc);
-    let mut next = first_timeline(place, work.workers, timelines);
+    let mut route = Route::new(place, work.workers, turns.places() / 2);
     let mut turned = Turned::Nothing;
     for _ in rt.forever() {
-        if worker.is_stopped(turns) {
+        if route.is_at_look() && worker.is_stopped(turns) {
             break;
         }
+        let round = worker.round_seen();
         turned = worker.turn(
             work.alloc,
             work.behaviour,
@@ -147,16 +148,15 @@ fn take_turns<R: Wait, B: Behaviour + Sync, G: Gate>(
             turns,
             gate,
             &mut hand,
-            next,
+            route.next(),
         );
         if is_last(turned) || worker.has_seen_end() || worker.round_seen() >= work.last {
             worker.stop(turns);
             break;
         }
-        if turned == Turned::Nothing {
+        if route.go_on(worker.round_seen() > round) {
             yield_now();
         }
-        next = next_timeline(next, timelines);
     }
     turned
 }
@@ -168,27 +168,5 @@ fn is_last(turned: Turned) -> bool
     match turned {
         Turned::Worked | Turned::Nothing => false,
         Turned::Stopped | Turned::Over | Turned::Memory => true,
-    }
-}
-
-/// With which timeline a worker begins.
-fn first_timeline(place: u32, workers: u32, timelines: u32) -> u32
-    requires place { place < workers }
-    requires timelines { 0 < timelines }
-    ensures { result < timelines }
-{
-    let first = u64::from(place) * u64::from(timelines) / u64::from(workers);
-    first as u32
-}
-
-/// The timeline after this one, and after the last one the first.
-fn next_timeline(timeline: u32, timelines: u32) -> u32
-    requires { timeline < timelines }
-    ensures { result < timelines }
-{
-    if timeline + 1 < timelines {
-        timeline + 1
-    } else {
-        0
     }
 }

@@ -9,6 +9,7 @@ mod ending;
 mod lane;
 mod laying;
 mod pool;
+mod route;
 
 pub use lane::Lane;
 pub use pool::{Pool, PoolEnd, run_workers};
