@@ -154,6 +154,7 @@ fn take_turns<R: Wait, B: Behaviour + Sync, G: Gate>(
             worker.stop(turns);
             break;
         }
+        // A new round of the barrier is the sign that there was something to do.
         if route.go_on(worker.round_seen() > round) {
             yield_now();
         }

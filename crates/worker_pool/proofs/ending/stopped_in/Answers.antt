@@ -1,4 +1,4 @@
-use Rattle.std.proofs.Common.{◌≡◌, length, refl, sym, ap, ◌∙◌, subst, arith, inl, inr, slice_get}
+use Rattle.std.proofs.Common.{◌≡◌, refl, sym, ap, ◌∙◌, subst, arith, inl, inr, slice_get}
 use Rattle.std.proofs.lemmas.Bool.{cases_lt}
 use Rattle.core_rules.proofs.Lists.{one_of, get_known}
 use Rattle.worker_pool.specs.declared.lane.Lane.{Lane}
