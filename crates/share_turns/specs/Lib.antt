@@ -2,3 +2,4 @@ pub mod Shares
 pub mod Tables
 pub mod Holdings
 pub mod Loads
+pub mod Rows

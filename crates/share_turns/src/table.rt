@@ -21,6 +21,7 @@ ghost use Rattle.share_turns.specs.Tables.{IsTableOf};
 ghost use Rattle.share_turns.specs.Holdings.{HoldsOne, HoldsTwo, HasLostNone, IsTimelineOut, IsMailOut, IsBarrierOut, AreTakenUpTo, AreTakenWritten, IsTimelineBy, StaysBy, IsMailBy, IsBarrierBy, HasTimeline, HasMail, HasNoMail, HasBarrier, HasNoBarrier};
 
 use crate::layout::Layout;
+use crate::near::Near;
 use crate::share::Share;
 use ssf_model::Behaviour;
 use sync_core::CrossEnd;
@@ -34,6 +35,8 @@ pub struct RunTable<'a, B: Behaviour> {
     pub turns: &'a Turns<Share<B>>,
     /// The channels between timelines.
     pub ends: &'a [CrossEnd],
+    /// For each timeline the places of its channels among them.
+    pub near: &'a Near,
     /// How many timelines and channels there are.
     pub layout: Layout,
     /// The timeline.
@@ -63,7 +66,7 @@ impl<'a, B: Behaviour> RunTable<'a, B> {
     /// Moves the timeline out, whose turn the pass has.
     pub fn bring_timeline(&self, pass: &mut Pass, turn: Turn) -> Held<Share<B>>
         requires pass { IsPassOf ⟦<Share<B> as Tenant>⟧ self.now.turns.now pass.old }
-        requires table { IsTableOf (key_of self.now.turns.now).value self.now.ends.now self.now.layout self.now.number }
+        requires table { IsTableOf (key_of self.now.turns.now).value self.now.ends.now self.now.near.now.rows.items self.now.layout self.now.number }
         requires turn { turn.place ≡ self.now.number }
         requires held { holds_at pass.old self.now.number ≡ 1 }
         requires others { (p : ℕ) → (p ≡ self.now.number → ⊥) → holds_at pass.old p ≡ 0 }
@@ -78,7 +81,7 @@ impl<'a, B: Behaviour> RunTable<'a, B> {
     /// Gives the timeline back.
     pub fn give_timeline(&self, pass: &mut Pass, own: Held<Share<B>>)
         requires pass { IsPassOf ⟦<Share<B> as Tenant>⟧ self.now.turns.now pass.old }
-        requires table { IsTableOf (key_of self.now.turns.now).value self.now.ends.now self.now.layout self.now.number }
+        requires table { IsTableOf (key_of self.now.turns.now).value self.now.ends.now self.now.near.now.rows.items self.now.layout self.now.number }
         requires has { HasTimeline B.valid B.carried B.reaction (key_of self.now.turns.now).value (view_of pass.old) self.now.number own }
         ensures pass { IsPassOf ⟦<Share<B> as Tenant>⟧ self.now.turns.now pass.new }
         ensures free { HoldsNone pass.new }
@@ -90,7 +93,7 @@ impl<'a, B: Behaviour> RunTable<'a, B> {
     /// Moves the mail of a timeline out, where its turn is free.
     pub fn bring_mail(&self, pass: &mut Pass, receiver: u32) -> Option<Held<Share<B>>>
         requires pass { IsPassOf ⟦<Share<B> as Tenant>⟧ self.now.turns.now pass.old }
-        requires table { IsTableOf (key_of self.now.turns.now).value self.now.ends.now self.now.layout self.now.number }
+        requires table { IsTableOf (key_of self.now.turns.now).value self.now.ends.now self.now.near.now.rows.items self.now.layout self.now.number }
         requires run { IsCoreOfRun (B.valid (key_of self.now.turns.now).value.behaviour) (B.carried (key_of self.now.turns.now).value.behaviour) (B.reaction (key_of self.now.turns.now).value.behaviour) (key_of self.now.turns.now).value }
         requires receiver { receiver < count_of (key_of self.now.turns.now).value }
         requires holds { HoldsOne (view_of pass.old) self.now.number }
@@ -106,7 +109,7 @@ impl<'a, B: Behaviour> RunTable<'a, B> {
     /// Gives the mail of a timeline back.
     pub fn give_mail(&self, pass: &mut Pass, receiver: u32, mail: Held<Share<B>>)
         requires pass { IsPassOf ⟦<Share<B> as Tenant>⟧ self.now.turns.now pass.old }
-        requires table { IsTableOf (key_of self.now.turns.now).value self.now.ends.now self.now.layout self.now.number }
+        requires table { IsTableOf (key_of self.now.turns.now).value self.now.ends.now self.now.near.now.rows.items self.now.layout self.now.number }
         requires receiver { receiver < count_of (key_of self.now.turns.now).value }
         requires holds { HoldsTwo (view_of pass.old) self.now.number (mail_place (key_of self.now.turns.now).value receiver) }
         requires mail { (x : Mails B.Payload) × IsMailOut (mail_place (key_of self.now.turns.now).value receiver) x mail × IsMailBy B.valid B.carried B.reaction (key_of self.now.turns.now).value (view_of pass.old) receiver x }
@@ -121,7 +124,7 @@ impl<'a, B: Behaviour> RunTable<'a, B> {
     /// Moves the barrier out, where its turn is free.
     pub fn bring_barrier(&self, pass: &mut Pass) -> Option<Held<Share<B>>>
         requires pass { IsPassOf ⟦<Share<B> as Tenant>⟧ self.now.turns.now pass.old }
-        requires table { IsTableOf (key_of self.now.turns.now).value self.now.ends.now self.now.layout self.now.number }
+        requires table { IsTableOf (key_of self.now.turns.now).value self.now.ends.now self.now.near.now.rows.items self.now.layout self.now.number }
         requires holds { HoldsOne (view_of pass.old) self.now.number }
         ensures pass { IsPassOf ⟦<Share<B> as Tenant>⟧ self.now.turns.now pass.new }
         ensures barrier { MatchOption result (HasNoBarrier B.valid B.carried B.reaction (key_of self.now.turns.now).value (view_of pass.old) (view_of pass.new) self.now.number) (λ barrier. HasBarrier B.valid B.carried B.reaction (key_of self.now.turns.now).value (view_of pass.old) (view_of pass.new) self.now.number barrier) }
@@ -135,7 +138,7 @@ impl<'a, B: Behaviour> RunTable<'a, B> {
     /// Gives the barrier back.
     pub fn give_barrier(&self, pass: &mut Pass, barrier: Held<Share<B>>)
         requires pass { IsPassOf ⟦<Share<B> as Tenant>⟧ self.now.turns.now pass.old }
-        requires table { IsTableOf (key_of self.now.turns.now).value self.now.ends.now self.now.layout self.now.number }
+        requires table { IsTableOf (key_of self.now.turns.now).value self.now.ends.now self.now.near.now.rows.items self.now.layout self.now.number }
         requires holds { HoldsTwo (view_of pass.old) self.now.number (barrier_place (key_of self.now.turns.now).value) }
         requires barrier { (bar : BarrierFields) × IsBarrierOut (barrier_place (key_of self.now.turns.now).value) bar barrier × IsBarrierBy B.valid B.carried B.reaction (key_of self.now.turns.now).value (view_of pass.old) bar }
         ensures pass { IsPassOf ⟦<Share<B> as Tenant>⟧ self.now.turns.now pass.new }
@@ -149,7 +152,7 @@ impl<'a, B: Behaviour> RunTable<'a, B> {
     /// Writes how much the timeline, which is held out, has executed.
     pub fn write_done(&self, pass: &mut Pass, done: u64)
         requires pass { IsPassOf ⟦<Share<B> as Tenant>⟧ self.now.turns.now pass.old }
-        requires table { IsTableOf (key_of self.now.turns.now).value self.now.ends.now self.now.layout self.now.number }
+        requires table { IsTableOf (key_of self.now.turns.now).value self.now.ends.now self.now.near.now.rows.items self.now.layout self.now.number }
         requires held { holds_at pass.old self.now.number ≡ 2 }
         requires noted { 0 < note_of pass.old (done_word (key_of self.now.turns.now).value self.now.number) }
         requires rises { note_of pass.old (done_word (key_of self.now.turns.now).value self.now.number) ≤ suc done }
@@ -163,7 +166,7 @@ impl<'a, B: Behaviour> RunTable<'a, B> {
     /// Writes how much the timeline has taken from each channel that comes from another one. It is held out, and its mail is.
     pub fn write_taken(&self, pass: &mut Pass, timeline: &Timeline<B>)
         requires pass { IsPassOf ⟦<Share<B> as Tenant>⟧ self.now.turns.now pass.old }
-        requires table { IsTableOf (key_of self.now.turns.now).value self.now.ends.now self.now.layout self.now.number }
+        requires table { IsTableOf (key_of self.now.turns.now).value self.now.ends.now self.now.near.now.rows.items self.now.layout self.now.number }
         requires run { IsCoreOfRun (B.valid (key_of self.now.turns.now).value.behaviour) (B.carried (key_of self.now.turns.now).value.behaviour) (B.reaction (key_of self.now.turns.now).value.behaviour) (key_of self.now.turns.now).value }
         requires timeline { IsTimelineHeld (B.valid (key_of self.now.turns.now).value.behaviour) (B.carried (key_of self.now.turns.now).value.behaviour) (B.reaction (key_of self.now.turns.now).value.behaviour) (key_of self.now.turns.now).value (mark (view_of pass.old)) self.now.number timeline.now }
         requires holds { HoldsTwo (view_of pass.old) self.now.number (mail_place (key_of self.now.turns.now).value self.now.number) }
@@ -179,7 +182,7 @@ impl<'a, B: Behaviour> RunTable<'a, B> {
     // Writes how much the timeline has taken from the channel of an end, where it is the receiver.
     fn write_taken_on(&self, pass: &mut Pass, place: u32, end: &CrossEnd, timeline: &Timeline<B>)
         requires pass { IsPassOf ⟦<Share<B> as Tenant>⟧ self.now.turns.now pass.old }
-        requires table { IsTableOf (key_of self.now.turns.now).value self.now.ends.now self.now.layout self.now.number }
+        requires table { IsTableOf (key_of self.now.turns.now).value self.now.ends.now self.now.near.now.rows.items self.now.layout self.now.number }
         requires end { slice_get self.now.ends.now place ≡ Some end.now }
         requires holds { HoldsTwo (view_of pass.old) self.now.number (mail_place (key_of self.now.turns.now).value self.now.number) }
         requires among { end.now.receiver ≡ self.now.number → Among end.now.channel (numbers_of timeline.now.in_ends) }
@@ -197,7 +200,7 @@ impl<'a, B: Behaviour> RunTable<'a, B> {
     /// Writes how much was posted on the channel of the end at a place. Its sender is held out, and the mail of its receiver is.
     pub fn write_posted(&self, pass: &mut Pass, place: u32, posted: u64)
         requires pass { IsPassOf ⟦<Share<B> as Tenant>⟧ self.now.turns.now pass.old }
-        requires table { IsTableOf (key_of self.now.turns.now).value self.now.ends.now self.now.layout self.now.number }
+        requires table { IsTableOf (key_of self.now.turns.now).value self.now.ends.now self.now.near.now.rows.items self.now.layout self.now.number }
         requires end { (end : CrossEndValue) × (slice_get self.now.ends.now place ≡ Some end) × (end.sender ≡ self.now.number) × (end.receiver < count_of (key_of self.now.turns.now).value) × (holds_at pass.old (mail_place (key_of self.now.turns.now).value end.receiver) ≡ 2) }
         requires held { holds_at pass.old self.now.number ≡ 2 }
         requires noted { 0 < note_of pass.old (posted_word (key_of self.now.turns.now).value place) }
@@ -212,7 +215,7 @@ impl<'a, B: Behaviour> RunTable<'a, B> {
     /// Writes the barrier's round. The barrier is held out.
     pub fn write_round(&self, pass: &mut Pass, round: u64)
         requires pass { IsPassOf ⟦<Share<B> as Tenant>⟧ self.now.turns.now pass.old }
-        requires table { IsTableOf (key_of self.now.turns.now).value self.now.ends.now self.now.layout self.now.number }
+        requires table { IsTableOf (key_of self.now.turns.now).value self.now.ends.now self.now.near.now.rows.items self.now.layout self.now.number }
         requires held { holds_at pass.old (barrier_place (key_of self.now.turns.now).value) ≡ 2 }
         requires noted { 0 < note_of pass.old (round_word (key_of self.now.turns.now).value) }
         requires rises { note_of pass.old (round_word (key_of self.now.turns.now).value) ≤ suc round }
@@ -228,7 +231,7 @@ impl<'a, B: Behaviour> RunTable<'a, B> {
     // Notes the count words that speak of the timeline, and marks the round.
     fn note_timeline(&self, pass: &mut Pass)
         requires pass { IsPassOf ⟦<Share<B> as Tenant>⟧ self.now.turns.now pass.old }
-        requires table { IsTableOf (key_of self.now.turns.now).value self.now.ends.now self.now.layout self.now.number }
+        requires table { IsTableOf (key_of self.now.turns.now).value self.now.ends.now self.now.near.now.rows.items self.now.layout self.now.number }
         requires held { 0 < holds_at pass.old self.now.number }
         ensures pass { IsPassOf ⟦<Share<B> as Tenant>⟧ self.now.turns.now pass.new }
         ensures loaded { HasLoaded (view_of pass.old) (view_of pass.new) }
@@ -245,7 +248,7 @@ impl<'a, B: Behaviour> RunTable<'a, B> {
     // Notes the words of the channel of an end that speak of the timeline.
     fn note_end(&self, pass: &mut Pass, place: u32, end: &CrossEnd)
         requires pass { IsPassOf ⟦<Share<B> as Tenant>⟧ self.now.turns.now pass.old }
-        requires table { IsTableOf (key_of self.now.turns.now).value self.now.ends.now self.now.layout self.now.number }
+        requires table { IsTableOf (key_of self.now.turns.now).value self.now.ends.now self.now.near.now.rows.items self.now.layout self.now.number }
         requires end { slice_get self.now.ends.now place ≡ Some end.now }
         requires held { 0 < holds_at pass.old self.now.number }
         ensures pass { IsPassOf ⟦<Share<B> as Tenant>⟧ self.now.turns.now pass.new }
@@ -264,7 +267,7 @@ impl<'a, B: Behaviour> RunTable<'a, B> {
     // Notes the count words that speak of the mail of a timeline.
     fn note_mail(&self, pass: &mut Pass, receiver: u32)
         requires pass { IsPassOf ⟦<Share<B> as Tenant>⟧ self.now.turns.now pass.old }
-        requires table { IsTableOf (key_of self.now.turns.now).value self.now.ends.now self.now.layout self.now.number }
+        requires table { IsTableOf (key_of self.now.turns.now).value self.now.ends.now self.now.near.now.rows.items self.now.layout self.now.number }
         requires run { IsCoreOfRun (B.valid (key_of self.now.turns.now).value.behaviour) (B.carried (key_of self.now.turns.now).value.behaviour) (B.reaction (key_of self.now.turns.now).value.behaviour) (key_of self.now.turns.now).value }
         requires receiver { receiver < count_of (key_of self.now.turns.now).value }
         requires held { 0 < holds_at pass.old (mail_place (key_of self.now.turns.now).value receiver) }
@@ -280,7 +283,7 @@ impl<'a, B: Behaviour> RunTable<'a, B> {
     // Notes the words of the channel of an end, where they speak of the mail of a timeline.
     fn note_mail_end(&self, pass: &mut Pass, place: u32, end: &CrossEnd, receiver: u32)
         requires pass { IsPassOf ⟦<Share<B> as Tenant>⟧ self.now.turns.now pass.old }
-        requires table { IsTableOf (key_of self.now.turns.now).value self.now.ends.now self.now.layout self.now.number }
+        requires table { IsTableOf (key_of self.now.turns.now).value self.now.ends.now self.now.near.now.rows.items self.now.layout self.now.number }
         requires end { slice_get self.now.ends.now place ≡ Some end.now }
         requires held { 0 < holds_at pass.old (mail_place (key_of self.now.turns.now).value receiver) }
         ensures pass { IsPassOf ⟦<Share<B> as Tenant>⟧ self.now.turns.now pass.new }
@@ -309,7 +312,7 @@ impl<'a, B: Behaviour> RunTable<'a, B> {
     // Notes the round, and marks what each timeline has done.
     fn note_barrier(&self, pass: &mut Pass)
         requires pass { IsPassOf ⟦<Share<B> as Tenant>⟧ self.now.turns.now pass.old }
-        requires table { IsTableOf (key_of self.now.turns.now).value self.now.ends.now self.now.layout self.now.number }
+        requires table { IsTableOf (key_of self.now.turns.now).value self.now.ends.now self.now.near.now.rows.items self.now.layout self.now.number }
         requires held { 0 < holds_at pass.old (barrier_place (key_of self.now.turns.now).value) }
         ensures pass { IsPassOf ⟦<Share<B> as Tenant>⟧ self.now.turns.now pass.new }
         ensures loaded { HasLoaded (view_of pass.old) (view_of pass.new) }
