@@ -1,3 +1,4 @@
+mod Rows
 mod Views
 mod Words
 mod Stays

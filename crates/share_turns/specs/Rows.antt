@@ -16,10 +16,10 @@ pub record ArePlacesOf (ends : List CrossEnd) (i : ℕ) (places : List ℕ) : Ty
   pub known : (k : ℕ) → Contains places k → (end : CrossEnd) × (slice_get ends k ≡ Some end) × IsEndAt i end
   pub all : (k : ℕ) (end : CrossEnd) → slice_get ends k ≡ Some end → IsEndAt i end → Contains places k
 
--- there is a row for each timeline, with the places of its channels
+-- there is a row for each timeline, and it has the places of its channels
 pub record AreNear (ends : List CrossEnd) (timelines : ℕ) (rows : List (Vec ℕ Global)) : Type 0 where
   pub many : length rows ≡ timelines
-  pub of : (i : ℕ) → i < timelines → (places : List ℕ) × IsRow rows i places × ArePlacesOf ends i places
+  pub of : (i : ℕ) (places : List ℕ) → IsRow rows i places → ArePlacesOf ends i places
 
 -- the row of timeline i has one place more, at its end, and the others are the same
 pub record HasAdded (old new : List (Vec ℕ Global)) (i place : ℕ) : Type 0 where
