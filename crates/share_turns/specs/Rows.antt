@@ -1,5 +1,5 @@
 -- The channels of each timeline: their places in the list of all channels between timelines.
-use Rattle.std.specs.Prelude.{ℕ, ◌≡◌, ◌≢◌, ◌<◌, ◌⊎◌, ◌++◌, ◌∷◌, [], List, length, Contains, Some, slice_get, Vec}
+use Rattle.std.specs.Prelude.{ℕ, ◌≡◌, ◌≢◌, ◌⊎◌, ◌++◌, ◌∷◌, [], List, length, Contains, Some, slice_get, Vec}
 use Rattle.std.specs.Global.{Global}
 use Rattle.plan_shares.specs.declared.crosses.CrossEnd.{CrossEnd}
 

@@ -174,8 +174,8 @@ impl<'a, B: Behaviour> RunTable<'a, B> {
         ensures pass { IsPassOf ⟦<Share<B> as Tenant>⟧ self.now.turns.now pass.new }
         ensures written { AreTakenWritten (key_of self.now.turns.now).value (view_of pass.old) (view_of pass.new) self.now.number timeline.now }
     {
-        for (place, end) in self.ends.iter().enumerate() {
-            self.write_taken_on(pass, place as u32, end, timeline);
+        for &place in self.near.of(self.number) {
+            self.write_taken_on(pass, place, &self.ends[place as usize], timeline);
         }
     }
 
@@ -238,8 +238,8 @@ impl<'a, B: Behaviour> RunTable<'a, B> {
         ensures noted { AreNoted (shape_of (key_of self.now.turns.now).value) (view_of pass.new) self.now.number }
         ensures marked { 0 < mark (view_of pass.new) (round_word (key_of self.now.turns.now).value) }
     {
-        for (place, end) in self.ends.iter().enumerate() {
-            self.note_end(pass, place as u32, end);
+        for &place in self.near.of(self.number) {
+            self.note_end(pass, place, &self.ends[place as usize]);
         }
         self.note(pass, self.layout.done(self.number));
         self.turns.load(pass, self.layout.round());
@@ -275,8 +275,8 @@ impl<'a, B: Behaviour> RunTable<'a, B> {
         ensures loaded { HasLoaded (view_of pass.old) (view_of pass.new) }
         ensures noted { AreNoted (shape_of (key_of self.now.turns.now).value) (view_of pass.new) (mail_place (key_of self.now.turns.now).value receiver) }
     {
-        for (place, end) in self.ends.iter().enumerate() {
-            self.note_mail_end(pass, place as u32, end, receiver);
+        for &place in self.near.of(receiver) {
+            self.note_mail_end(pass, place, &self.ends[place as usize], receiver);
         }
     }
 

@@ -7,5 +7,5 @@ use Rattle.share_turns.proofs.table.RunTable.note_timeline.Given as goal
 abbrev pub invariant-loop-place : goal.invariant-loop-place
 invariant-loop-place g l = record {
   pass : IsSeated (table_of l.fn.self.turns.now) (shape_of (key_of l.fn.self.turns.now).value) l.pass;
-  ends : EndsNoted (key_of l.fn.self.turns.now).value sender_of receiver_of (view_of l.fn.pass) (view_of l.pass) l.fn.self.number l.place;
+  ends : EndsNoted (key_of l.fn.self.turns.now).value sender_of receiver_of l.place-items (view_of l.fn.pass) (view_of l.pass) l.fn.self.number l.place-index;
 }

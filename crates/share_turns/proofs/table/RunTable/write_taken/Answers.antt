@@ -1,4 +1,4 @@
-use Rattle.std.proofs.Common.{◌≡◌, ℕ, ◌+◌, refl, sym, ap, ◌∙◌, subst, arith, Some, slice_get, get_or, length}
+use Rattle.std.proofs.Common.{◌≡◌, ℕ, ◌+◌, sym, ◌∙◌, subst, inr, arith, Some, slice_get, get_or}
 use Rattle.turn_table.specs.declared.view.View.{View}
 use Rattle.turn_table.specs.Passes.{view_of}
 use Rattle.turn_table.specs.Turned.{key_of}
@@ -6,21 +6,24 @@ use Rattle.turn_table.specs.Views.{mark}
 use Rattle.plan_shares.specs.declared.crosses.CrossEnd.{CrossEnd}
 use Rattle.share_rules.specs.Places.{mail_place}
 use Rattle.share_turns.proofs.Taken.{into_there, AreTakenTo, taken_first, taken_all, taken_same, taken_next}
-use Rattle.core_rules.proofs.Lists.{get_known}
-use Rattle.std.proofs.lemmas.Option.{slice_get_read}
-use Rattle.plan_shares.proofs.ForEach.{here_is}
+use Rattle.share_turns.proofs.Rows.{place_here, end_here, end_there, place_known, place_before, no_end}
 use Rattle.share_turns.proofs.table.RunTable.write_taken.Goals as goal
-use Rattle.std.proofs.Common.{List}
 use Rattle.turn_table.proofs.Lookups.{alike}
 
+pub of-place-items-requires : goal.of-place-items-requires
+of-place-items-requires g c = omega (arith, c.requires.table.near.many, c.requires.table.known)
+
 pub loop-place-init : goal.loop-place-init
-loop-place-init g c = record { pass = c.requires.pass; taken = taken_first (key_of c.args.self.now.turns.now).value (view_of c.args.pass.now) c.args.self.now.number c.args.timeline.now }
+loop-place-init g c = record { pass = c.requires.pass; taken = taken_first (key_of c.args.self.now.turns.now).value c.of-place-items.result.now (view_of c.args.pass.now) c.args.self.now.number c.args.timeline.now c.requires.rises }
+
+pub bounds-self-place : goal.bounds-self-place
+bounds-self-place g c = place_known (key_of c.args.self.now.turns.now).value c.args.self.now.ends.now c.args.self.now.near.now.rows.items c.args.self.now.layout c.args.self.now.number c.requires.table c.args.self.now.number c.of-place-items.result.now c.of-place-items.ensures c.loop-place.place-index c.loop-place-test.true
 
 pub write_taken_on-requires-clause-pass : goal.write_taken_on-requires-clause-pass
 write_taken_on-requires-clause-pass g c κs within = c.loop-place.invariant.pass
 
 pub write_taken_on-requires-clause-end : goal.write_taken_on-requires-clause-end
-write_taken_on-requires-clause-end g c κs within = (slice_get_read c.args.self.now.ends.now (length c.args.self.now.ends.now) c.loop-place.place (get_or c.args.self.now.ends.now c.loop-place.place (record { channel = 0; sender = 0; receiver = 0 })) refl c.loop-place-test.true (here_is c.args.self.now.ends.now c.loop-place.place (record { channel = 0; sender = 0; receiver = 0 }) c.loop-place-test.true))
+write_taken_on-requires-clause-end g c κs within = (end_here (key_of c.args.self.now.turns.now).value c.args.self.now.ends.now c.args.self.now.near.now.rows.items c.args.self.now.layout c.args.self.now.number c.requires.table c.args.self.now.number c.of-place-items.result.now c.of-place-items.ensures c.loop-place.place-index c.loop-place-test.true)
 
 pub write_taken_on-requires-clause-holds : goal.write_taken_on-requires-clause-holds
 write_taken_on-requires-clause-holds g c κs within = record {
@@ -30,26 +33,26 @@ write_taken_on-requires-clause-holds g c κs within = record {
 }
 
 pub write_taken_on-requires-clause-among : goal.write_taken_on-requires-clause-among
-write_taken_on-requires-clause-among g c κs within = λ is. into_there (g.B.Behaviour.valid (key_of c.args.self.now.turns.now).value.behaviour) (g.B.Behaviour.carried (key_of c.args.self.now.turns.now).value.behaviour) (g.B.Behaviour.reaction (key_of c.args.self.now.turns.now).value.behaviour) (key_of c.args.self.now.turns.now).value c.requires.run (mark (view_of c.args.pass.now)) c.args.self.now.number c.args.timeline.now c.requires.timeline c.loop-place.place (get_or c.args.self.now.ends.now c.loop-place.place (record { channel = 0; sender = 0; receiver = 0 })) (subst (λ (es : List CrossEnd). slice_get es c.loop-place.place ≡ Some (get_or c.args.self.now.ends.now c.loop-place.place (record { channel = 0; sender = 0; receiver = 0 }))) c.requires.table.own (slice_get_read c.args.self.now.ends.now (length c.args.self.now.ends.now) c.loop-place.place (get_or c.args.self.now.ends.now c.loop-place.place (record { channel = 0; sender = 0; receiver = 0 })) refl c.loop-place-test.true (here_is c.args.self.now.ends.now c.loop-place.place (record { channel = 0; sender = 0; receiver = 0 }) c.loop-place-test.true))) is
+write_taken_on-requires-clause-among g c κs within = λ is. into_there (g.B.Behaviour.valid (key_of c.args.self.now.turns.now).value.behaviour) (g.B.Behaviour.carried (key_of c.args.self.now.turns.now).value.behaviour) (g.B.Behaviour.reaction (key_of c.args.self.now.turns.now).value.behaviour) (key_of c.args.self.now.turns.now).value c.requires.run (mark (view_of c.args.pass.now)) c.args.self.now.number c.args.timeline.now c.requires.timeline (get_or c.of-place-items.result.now c.loop-place.place-index 0) (get_or c.args.self.now.ends.now (get_or c.of-place-items.result.now c.loop-place.place-index 0) no_end) (end_there (key_of c.args.self.now.turns.now).value c.args.self.now.ends.now c.args.self.now.near.now.rows.items c.args.self.now.layout c.args.self.now.number c.requires.table c.args.self.now.number c.of-place-items.result.now c.of-place-items.ensures c.loop-place.place-index c.loop-place-test.true) is
 
 pub write_taken_on-requires-clause-noted : goal.write_taken_on-requires-clause-noted
-write_taken_on-requires-clause-noted g c κs within = λ is. (let left = c.loop-place.invariant.taken.left c.loop-place.place (omega arith) in let up = (c.requires.rises c.loop-place.place (get_or c.args.self.now.ends.now c.loop-place.place (record { channel = 0; sender = 0; receiver = 0 })) (subst (λ (es : List CrossEnd). slice_get es c.loop-place.place ≡ Some (get_or c.args.self.now.ends.now c.loop-place.place (record { channel = 0; sender = 0; receiver = 0 }))) c.requires.table.own (slice_get_read c.args.self.now.ends.now (length c.args.self.now.ends.now) c.loop-place.place (get_or c.args.self.now.ends.now c.loop-place.place (record { channel = 0; sender = 0; receiver = 0 })) refl c.loop-place-test.true (here_is c.args.self.now.ends.now c.loop-place.place (record { channel = 0; sender = 0; receiver = 0 }) c.loop-place-test.true))) is).0 in omega (arith, left, up))
+write_taken_on-requires-clause-noted g c κs within = λ is. (c.loop-place.invariant.taken.rises (get_or c.of-place-items.result.now c.loop-place.place-index 0) (get_or c.args.self.now.ends.now (get_or c.of-place-items.result.now c.loop-place.place-index 0) no_end) (end_there (key_of c.args.self.now.turns.now).value c.args.self.now.ends.now c.args.self.now.near.now.rows.items c.args.self.now.layout c.args.self.now.number c.requires.table c.args.self.now.number c.of-place-items.result.now c.of-place-items.ensures c.loop-place.place-index c.loop-place-test.true) is).0
 
 pub write_taken_on-requires-clause-rises : goal.write_taken_on-requires-clause-rises
-write_taken_on-requires-clause-rises g c κs within = λ is. (let left = c.loop-place.invariant.taken.left c.loop-place.place (omega arith) in let up = (c.requires.rises c.loop-place.place (get_or c.args.self.now.ends.now c.loop-place.place (record { channel = 0; sender = 0; receiver = 0 })) (subst (λ (es : List CrossEnd). slice_get es c.loop-place.place ≡ Some (get_or c.args.self.now.ends.now c.loop-place.place (record { channel = 0; sender = 0; receiver = 0 }))) c.requires.table.own (slice_get_read c.args.self.now.ends.now (length c.args.self.now.ends.now) c.loop-place.place (get_or c.args.self.now.ends.now c.loop-place.place (record { channel = 0; sender = 0; receiver = 0 })) refl c.loop-place-test.true (here_is c.args.self.now.ends.now c.loop-place.place (record { channel = 0; sender = 0; receiver = 0 }) c.loop-place-test.true))) is).1 in omega (arith, left, up))
+write_taken_on-requires-clause-rises g c κs within = λ is. (c.loop-place.invariant.taken.rises (get_or c.of-place-items.result.now c.loop-place.place-index 0) (get_or c.args.self.now.ends.now (get_or c.of-place-items.result.now c.loop-place.place-index 0) no_end) (end_there (key_of c.args.self.now.turns.now).value c.args.self.now.ends.now c.args.self.now.near.now.rows.items c.args.self.now.layout c.args.self.now.number c.requires.table c.args.self.now.number c.of-place-items.result.now c.of-place-items.ensures c.loop-place.place-index c.loop-place-test.true) is).1
 
 pub loop-place-preserved : goal.loop-place-preserved
 loop-place-preserved g c = record {
   pass = c.write_taken_on.ensures.pass;
-  taken = alike (get_or c.args.self.now.ends.now c.loop-place.place (record { channel = 0; sender = 0; receiver = 0 })).receiver c.args.self.now.number
-      (λ is. subst (λ (w : View). AreTakenTo (key_of c.args.self.now.turns.now).value (view_of c.args.pass.now) w c.args.self.now.number c.args.timeline.now (c.loop-place.place + 1)) (sym (c.write_taken_on.ensures.written is))
-      (taken_next (key_of c.args.self.now.turns.now).value (view_of c.args.pass.now) c.args.self.now.number c.args.timeline.now (view_of c.loop-place.pass) c.loop-place.place (get_or c.args.self.now.ends.now c.loop-place.place (record { channel = 0; sender = 0; receiver = 0 })) c.loop-place.invariant.pass.shaped (subst (λ (es : List CrossEnd). slice_get es c.loop-place.place ≡ Some (get_or c.args.self.now.ends.now c.loop-place.place (record { channel = 0; sender = 0; receiver = 0 }))) c.requires.table.own (slice_get_read c.args.self.now.ends.now (length c.args.self.now.ends.now) c.loop-place.place (get_or c.args.self.now.ends.now c.loop-place.place (record { channel = 0; sender = 0; receiver = 0 })) refl c.loop-place-test.true (here_is c.args.self.now.ends.now c.loop-place.place (record { channel = 0; sender = 0; receiver = 0 }) c.loop-place-test.true))) is c.requires.table.known c.loop-place.invariant.taken))
-      (λ other. subst (λ (w : View). AreTakenTo (key_of c.args.self.now.turns.now).value (view_of c.args.pass.now) w c.args.self.now.number c.args.timeline.now (c.loop-place.place + 1)) (sym (c.write_taken_on.ensures.same other))
-      (taken_same (key_of c.args.self.now.turns.now).value (view_of c.args.pass.now) c.args.self.now.number c.args.timeline.now (view_of c.loop-place.pass) c.loop-place.place (get_or c.args.self.now.ends.now c.loop-place.place (record { channel = 0; sender = 0; receiver = 0 })) (subst (λ (es : List CrossEnd). slice_get es c.loop-place.place ≡ Some (get_or c.args.self.now.ends.now c.loop-place.place (record { channel = 0; sender = 0; receiver = 0 }))) c.requires.table.own (slice_get_read c.args.self.now.ends.now (length c.args.self.now.ends.now) c.loop-place.place (get_or c.args.self.now.ends.now c.loop-place.place (record { channel = 0; sender = 0; receiver = 0 })) refl c.loop-place-test.true (here_is c.args.self.now.ends.now c.loop-place.place (record { channel = 0; sender = 0; receiver = 0 }) c.loop-place-test.true))) other c.loop-place.invariant.taken));
+  taken = alike (get_or c.args.self.now.ends.now (get_or c.of-place-items.result.now c.loop-place.place-index 0) no_end).receiver c.args.self.now.number
+      (λ is. subst (λ (w : View). AreTakenTo (key_of c.args.self.now.turns.now).value c.of-place-items.result.now (view_of c.args.pass.now) w c.args.self.now.number c.args.timeline.now (c.loop-place.place-index + 1)) (sym (c.write_taken_on.ensures.written is))
+      (taken_next (key_of c.args.self.now.turns.now).value c.of-place-items.result.now (view_of c.args.pass.now) c.args.self.now.number c.args.timeline.now (view_of c.loop-place.pass) c.loop-place.place-index (get_or c.of-place-items.result.now c.loop-place.place-index 0) (get_or c.args.self.now.ends.now (get_or c.of-place-items.result.now c.loop-place.place-index 0) no_end) c.loop-place.invariant.pass.shaped (place_here c.of-place-items.result.now c.loop-place.place-index c.loop-place-test.true) (end_there (key_of c.args.self.now.turns.now).value c.args.self.now.ends.now c.args.self.now.near.now.rows.items c.args.self.now.layout c.args.self.now.number c.requires.table c.args.self.now.number c.of-place-items.result.now c.of-place-items.ensures c.loop-place.place-index c.loop-place-test.true) is c.requires.table.known c.loop-place.invariant.taken))
+      (λ other. subst (λ (w : View). AreTakenTo (key_of c.args.self.now.turns.now).value c.of-place-items.result.now (view_of c.args.pass.now) w c.args.self.now.number c.args.timeline.now (c.loop-place.place-index + 1)) (sym (c.write_taken_on.ensures.same other))
+      (taken_same (key_of c.args.self.now.turns.now).value c.of-place-items.result.now (view_of c.args.pass.now) c.args.self.now.number c.args.timeline.now (view_of c.loop-place.pass) c.loop-place.place-index (get_or c.of-place-items.result.now c.loop-place.place-index 0) (get_or c.args.self.now.ends.now (get_or c.of-place-items.result.now c.loop-place.place-index 0) no_end) (place_here c.of-place-items.result.now c.loop-place.place-index c.loop-place-test.true) (end_there (key_of c.args.self.now.turns.now).value c.args.self.now.ends.now c.args.self.now.near.now.rows.items c.args.self.now.layout c.args.self.now.number c.requires.table c.args.self.now.number c.of-place-items.result.now c.of-place-items.ensures c.loop-place.place-index c.loop-place-test.true) other c.loop-place.invariant.taken));
 }
 
 pub returns-clause-pass : goal.returns-clause-pass
 returns-clause-pass g c = c.loop-place.invariant.pass
 
 pub returns-clause-written : goal.returns-clause-written
-returns-clause-written g c = taken_all (key_of c.args.self.now.turns.now).value (view_of c.args.pass.now) c.args.self.now.number c.args.timeline.now (view_of c.loop-place.pass) c.loop-place.place c.loop-place.invariant.taken (λ (k : ℕ) (end : CrossEnd) (found : slice_get (key_of c.args.self.now.turns.now).value.ends k ≡ Some end). (let low = get_known (key_of c.args.self.now.turns.now).value.ends k end found in let own : length c.args.self.now.ends.now ≡ length (key_of c.args.self.now.turns.now).value.ends = ap length c.requires.table.own in let past = c.loop-place-test.false in omega (arith, low, own, past)))
+returns-clause-written g c = taken_all (key_of c.args.self.now.turns.now).value c.of-place-items.result.now (view_of c.args.pass.now) c.args.self.now.number c.args.timeline.now (view_of c.loop-place.pass) c.loop-place.place-index c.loop-place.invariant.taken (λ (k : ℕ) (end : CrossEnd) (found : slice_get (key_of c.args.self.now.turns.now).value.ends k ≡ Some end) is. (place_before (key_of c.args.self.now.turns.now).value c.args.self.now.ends.now c.args.self.now.near.now.rows.items c.args.self.now.layout c.args.self.now.number c.requires.table c.args.self.now.number c.of-place-items.result.now c.of-place-items.ensures c.loop-place.place-index k end c.loop-place-test.false found (inr is)))
