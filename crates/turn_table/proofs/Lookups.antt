@@ -1,10 +1,10 @@
 -- Functions as lists of changes, and lists after one item was set.
-use Rattle.std.proofs.Common.{◌≡◌, ◌≢◌, ℕ, zero, suc, ◌<◌, ◌==◌, ◌⊎◌, ◌||◌, Bool, true, false, cond, List, [], ◌∷◌, length, set, refl, sym, ap, ◌∙◌, inl, inr, eq-eqb, ne_eqb, arith}
+use Rattle.std.proofs.Common.{◌≡◌, ◌≢◌, ℕ, zero, suc, ◌<◌, ◌≤◌, ◌==◌, ◌⊎◌, ◌||◌, Bool, true, false, cond, List, [], ◌∷◌, length, set, refl, sym, ap, ◌∙◌, inl, inr, eq-eqb, ne_eqb, arith}
 use mathlib.Core.Option.{some, some-ne-none}
 use mathlib.Core.Logic.{dite}
 use native.Mathlib.Decide.{ℕ_discrete}
 use lib.ListN.{get_elem?}
-use Rattle.turn_table.specs.Changes.{at, forget}
+use Rattle.turn_table.specs.Changes.{at, forget, put_first}
 
 -- the two cases of an equation between numbers
 pub alike : {X : Type 0} (a b : ℕ) → (a ≡ b → X) → (a ≢ b → X) → X
@@ -22,6 +22,17 @@ at_here l p n = cond_here p p n (at l p) refl
 
 pub at_else : (l : List (ℕ × ℕ)) (p n q : ℕ) → q ≢ p → at ((p, n) ∷ l) q ≡ at l q
 at_else l p n q ne = cond_else q p n (at l q) ne
+
+-- numbers that were put at the first places, and the others
+pub first_put : (f : ℕ → ℕ) (n : ℕ) (l : List (ℕ × ℕ)) (c : ℕ) → c < n → at (put_first f n l) c ≡ suc (f c)
+first_put f zero l c h = absurd (omega arith)
+first_put f (suc n) l c h = alike c n
+    (λ same. cond_here c n (suc (f n)) (at (put_first f n l) c) same ∙ ap (λ k. suc (f k)) (sym same))
+    (λ ne. cond_else c n (suc (f n)) (at (put_first f n l) c) ne ∙ first_put f n l c (omega arith))
+
+pub first_left : (f : ℕ → ℕ) (n : ℕ) (l : List (ℕ × ℕ)) (c : ℕ) → n ≤ c → at (put_first f n l) c ≡ at l c
+first_left f zero l c h = refl
+first_left f (suc n) l c h = cond_else c n (suc (f n)) (at (put_first f n l) c) (λ same. omega arith) ∙ first_left f n l c (omega arith)
 
 forget_one : (f : ℕ → Bool) (x : ℕ × ℕ) (l : List (ℕ × ℕ)) (c : ℕ) (b : Bool) → f x.0 ≡ b → at (forget f l) c ≡ cond (f c) 0 (at l c) → at (cond b (forget f l) (x ∷ forget f l)) c ≡ cond (f c) 0 (cond (c == x.0) x.1 (at l c))
 forget_one f x l c true e h = alike c x.0

@@ -1,6 +1,7 @@
 -- Each kind of step keeps the rule and tells what it is to tell.
 use Rattle.std.proofs.Common.{◌≡◌, ◌≢◌, ℕ, zero, suc, ◌+◌, ◌<◌, ◌≤◌, ◌==◌, ◌⊎◌, Bool, true, false, cond, not, List, [], ◌∷◌, length, get_or, set, refl, sym, ap, subst, ◌∙◌, inl, inr, ⊎_elim, arith, eq-zero-or-pos, length-set, get_or-set_other, slice_index, Some, IfSome, true≢false}
 use Rattle.std.proofs.Common as std
+use Rattle.std.proofs.lemmas.Bool.{cases_lt}
 use Rattle.std.proofs.lemmas.Grind.{get_or-set_at}
 use Rattle.std.proofs.lemmas.List.{set-get_or}
 use mathlib.Core.Option.{Option, some, none, some-injective}
@@ -12,12 +13,12 @@ use Rattle.turn_table.specs.declared.cell.Cell.{Cell}
 use Rattle.turn_table.specs.declared.cell.Cell.TheVariants.{Value, Empty}
 use Rattle.turn_table.specs.declared.tenant.Tenant.{Ghosts}
 use Rattle.turn_table.specs.declared.view.View.{View}
-use Rattle.turn_table.specs.Changes.{at, put}
+use Rattle.turn_table.specs.Changes.{at, put, put_first}
 use Rattle.turn_table.specs.Shapes.{places_in, words_in, is_marked, is_cleared}
-use Rattle.turn_table.specs.Views.{held, note, mark, is_spoken_for, holding, taking, losing, giving, reading, writing, looking}
+use Rattle.turn_table.specs.Views.{held, note, mark, is_spoken_for, holding, taking, losing, giving, reading, writing, marking, looking}
 use Rattle.turn_table.specs.Rule.{turn_word, count_word, IsHome, Kept}
-use Rattle.turn_table.specs.Steps.{Tells, Pays, tried, reached, emptied, entered, settled, given, read, written, looked, raised}
-use Rattle.turn_table.proofs.Lookups.{alike, at_here, at_else, forgotten, forget_or, forget_left, cond_here, cond_else}
+use Rattle.turn_table.specs.Steps.{Tells, Pays, tried, reached, emptied, entered, settled, given, read, written, marked_all, looked, raised}
+use Rattle.turn_table.proofs.Lookups.{alike, at_here, at_else, first_put, first_left, forgotten, forget_or, forget_left, cond_here, cond_else}
 use Rattle.turn_table.proofs.Seats.{itself}
 use Rattle.turn_table.proofs.Core.{board, sole, Touch, touched, viewed}
 use Rattle.turn_table.proofs.Words.{spoken_more, marks_of, reworded, Writes, wrote}
@@ -230,7 +231,34 @@ module _ {T K : Type 0} (g : Ghosts T K) (key : K) where
     pub writes : (n : ℕ) → Writes g key v c n → Allows (Kept g key) slots id (v, hand) i (λ m. n) (λ m. written (step slots i n 0 none) (v, hand) n)
     writes n t s r deep e small = (writing v c n, keeps, tt, wrote g key s r id v c n i e at_i t, λ q at. of_count q (λ q. Is (writing v c n, hand) (writing v q n, hand)) at refl)
 
+  -- what the marks say stays so where the first words are marked, too
+  first_marked : (F : ℕ → ℕ) (n : ℕ) (l : List (ℕ × ℕ)) (q : ℕ) (x : T) → g.keeps key F → g.owes key F q x → g.marked key (at l) q x → g.marked key (at (put_first F n l)) q x
+  first_marked F zero l q x kept owed m = m
+  first_marked F (suc n) l q x kept owed m = g.marks key F (at (put_first F n l)) q x n kept owed (first_marked F n l q x kept owed m)
+
+  -- a number that was put at the first places, or not, has been reached
+  first_lower : (F : ℕ → ℕ) (n : ℕ) (l : List (ℕ × ℕ)) (q : ℕ) → at l q ≤ suc (F q) → at (put_first F n l) q ≤ suc (F q)
+  first_lower F n l q low = ⊎_elim
+      (λ h. let here = first_put F n l q h in omega arith)
+      (λ h. let left = first_left F n l q h in omega arith)
+      (cases_lt q n)
+
   module _ (slots id : ℕ) (v : View) (hand : List (ℕ × Cell T)) where
+    pub marks_all : Allows (Kept g key) slots id (v, hand) 0 (λ n. n) (marked_all (step slots 0 0 0 none) (v, hand))
+    marks_all s r deep e small = let F = count_word (g.shape key) s.words in (
+      marking v F,
+      keeps,
+      tt,
+      again s s.homes (set s.views id (marking v F)) 0 (viewed g key s r id v (marking v F) e (record {
+        self = record { root = refl; number = refl; made = refl; back = refl; shape = refl };
+        helds = λ q. refl;
+        notes = λ c h. inl refl;
+        lower = λ q. first_lower F (words_in v.shape) v.marks q (r.lower id v e q);
+        marked = λ q x owed m. first_marked F (words_in v.shape) v.marks q x r.kept owed m;
+      })),
+      (F, (λ c h. (r.noted id v e c h).2), r.lower id v e, refl),
+    )
+
     pub looks : Allows (Kept g key) slots id (v, hand) 0 (λ n. n) (looked (step slots 0 0 0 none) (v, hand))
     looks s r deep e small = let n : ℕ = slice_index s.words 0 in (
       looking v n,

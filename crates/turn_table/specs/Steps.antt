@@ -7,7 +7,7 @@ use Rattle.turn_table.specs.declared.cell.Cell.TheVariants.{Value, Empty}
 use Rattle.turn_table.specs.declared.tenant.Tenant.{Ghosts}
 use Rattle.turn_table.specs.declared.view.View.{View}
 use Rattle.turn_table.specs.Changes.{put}
-use Rattle.turn_table.specs.Views.{note, mark, holding, taking, losing, giving, writing, reading, looking}
+use Rattle.turn_table.specs.Views.{note, mark, holding, taking, losing, giving, writing, reading, marking, looking}
 
 -- each note is the number of the word in these counts
 abbrev pub Fits : View → (ℕ → ℕ) → Type 0
@@ -81,6 +81,10 @@ module _ {T : Type 0} where
   -- a count word was written
   abbrev pub written : Step (Cell T) → Me (Cell T) View → ℕ → Me (Cell T) View → Type 0
   written st m r n = OfCount st (λ c. n ≡ (writing m.0 c st.first, m.1))
+
+  -- each count word was marked, by counts that fit the notes and the marks
+  abbrev pub marked_all : Step (Cell T) → Me (Cell T) View → ℕ → Me (Cell T) View → Type 0
+  marked_all st m r n = (f : ℕ → ℕ) × Fits m.0 f × Above m.0 f × (n ≡ (marking m.0 f, m.1))
 
   -- the stop word was read
   abbrev pub looked : Step (Cell T) → Me (Cell T) View → ℕ → Me (Cell T) View → Type 0

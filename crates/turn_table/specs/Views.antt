@@ -2,8 +2,8 @@
 use Rattle.std.specs.Prelude.{ℕ, suc, Bool, true, false, cond, not, ◌||◌, ltb, [], ◌∷◌}
 use Rattle.turn_table.specs.declared.view.Shape.{Shape}
 use Rattle.turn_table.specs.declared.view.View.{View}
-use Rattle.turn_table.specs.Changes.{at, forget}
-use Rattle.turn_table.specs.Shapes.{spoken, is_marked, is_cleared}
+use Rattle.turn_table.specs.Changes.{at, forget, put_first}
+use Rattle.turn_table.specs.Shapes.{words_in, spoken, is_marked, is_cleared}
 
 -- How a pass holds a place: 0 not at all, 1 with its value at home, 2 with its value out, and 3 while the slot is being emptied or filled.
 abbrev pub held : View → ℕ → ℕ
@@ -55,6 +55,10 @@ writing v c n = record v { notes = (c, suc n) ∷ v.notes; marks = cond (is_mark
 -- the number of the count word c was read: it is noted where the word speaks of a held place, and marked where the word is one that is marked
 abbrev pub reading : View → ℕ → ℕ → View
 reading v c n = record v { notes = cond (is_spoken_for v.shape (at v.held) c) ((c, suc n) ∷ v.notes) v.notes; marks = cond (is_marked v.shape c) ((c, suc n) ∷ v.marks) v.marks }
+
+-- each count word was marked with its number in these counts
+abbrev pub marking : View → (ℕ → ℕ) → View
+marking v f = record v { marks = put_first f (words_in v.shape) v.marks }
 
 -- the stop word was read
 abbrev pub looking : View → ℕ → View

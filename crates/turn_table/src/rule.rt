@@ -1,6 +1,6 @@
 //! The shared rule, and the kinds of steps that a pass makes under it.
 ghost use Rattle.turn_table.specs.Rule.{Kept};
-ghost use Rattle.turn_table.specs.Steps.{tried, reached, emptied, entered, settled, given, read, written, looked, raised};
+ghost use Rattle.turn_table.specs.Steps.{tried, reached, emptied, entered, settled, given, read, written, marked_all, looked, raised};
 ghost use Rattle.turn_table.specs.Views.{rooted, made_one, fresh, taken_in, spent};
 ghost use Rattle.std.specs.Prelude.{Option, None};
 
@@ -84,6 +84,13 @@ pub(crate) enum Write {}
 
 impl<V> Play<Cell<V>, View> for Write {
     ghost then = { written };
+}
+
+/// Marks each count word.
+pub(crate) enum Mark {}
+
+impl<V> Play<Cell<V>, View> for Mark {
+    ghost then = { marked_all };
 }
 
 /// Reads the stop word.

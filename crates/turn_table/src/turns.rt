@@ -1,12 +1,14 @@
 //! The table of values of which each has one holder at a time.
-ghost use Rattle.std.specs.Prelude.{◌≡◌, ◌≢◌, ◌+◌, ◌<◌, ◌≤◌, [], true, ◌↔◌, IsTrue, Some, MatchOption, length, suc};
+ghost use Rattle.std.specs.Prelude.{◌≡◌, ◌≢◌, ℕ, ◌+◌, ◌<◌, ◌≤◌, [], true, ◌↔◌, IsTrue, Some, MatchOption, length, suc};
 ghost use Rattle.atomic_table.specs.Seated.{table_id_coded};
 ghost use base.Stored.{Coded-set};
 ghost use Rattle.turn_table.specs.Passes.{only, is_root_of};
 
 use crate::cell::{Cell, into_value};
 use crate::pass::{Held, Pass, Turn};
-use crate::rule::{About, Clear, Enter, Give, Law, Look, Raise, Reach, Read, Settle, Try, Write};
+use crate::rule::{
+    About, Clear, Enter, Give, Law, Look, Mark, Raise, Reach, Read, Settle, Try, Write,
+};
 use crate::tenant::Tenant;
 use crate::view::View;
 use atomic_table::{Badge, Seat, Table};
@@ -36,8 +38,8 @@ impl<V: Tenant> Turns<V> {
     ghost use Rattle.turn_table.specs.Passes.{view_of, holds_at, mark_of, note_of};
     ghost use Rattle.turn_table.specs.Shapes.{spoken};
     ghost use Rattle.turn_table.specs.Turned.{table_of, key_of, count_of, places_of, words_of, IsPassOf};
-    ghost use Rattle.turn_table.specs.Steps.{Tells, Pays, KeepsWith};
-    ghost use Rattle.turn_table.specs.Views.{held, moving_out, moving_home, taking, losing, giving, reading, writing, looking};
+    ghost use Rattle.turn_table.specs.Steps.{Fits, Above, Tells, Pays, KeepsWith};
+    ghost use Rattle.turn_table.specs.Views.{held, moving_out, moving_home, taking, losing, giving, reading, writing, marking, looking};
 
     /// How many places there are.
     pub fn places(&self) -> u32
@@ -191,6 +193,18 @@ impl<V: Tenant> Turns<V> {
         let index = self.board.places as usize + 1 + word as usize;
         let mut seat = pass.sit();
         self.board.table.shared.store::<Write>(&mut seat, index, n);
+        pass.rest(seat);
+    }
+
+    /// Marks each count word with the number that it has at one moment of this call. No count word is loaded for that:
+    /// that a word has reached a number is known to proofs alone.
+    pub fn mark(&self, pass: &mut Pass)
+        requires { IsPassOf V.Tenant self.now pass.old }
+        ensures pass { IsPassOf V.Tenant self.now pass.new }
+        ensures marks { (f : ℕ → ℕ) × Fits (view_of pass.old) f × Above (view_of pass.old) f × (view_of pass.new ≡ marking (view_of pass.old) f) }
+    {
+        let mut seat = pass.sit();
+        self.board.table.shared.load::<Mark>(&mut seat, 0);
         pass.rest(seat);
     }
 
