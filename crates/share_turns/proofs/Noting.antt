@@ -1,16 +1,17 @@
 -- The words of channels, noted one after the other.
 use Rattle.std.proofs.Common.{◌≡◌, ℕ, suc, ◌+◌, ◌<◌, ◌≤◌, List, sym, ap, ◌∙◌, subst, inl, inr, arith, Some, slice_get}
 use Rattle.turn_table.specs.declared.view.View.{View}
-use Rattle.turn_table.specs.Views.{note, mark, reading}
-use Rattle.turn_table.proofs.Lookups.{alike}
+use Rattle.turn_table.specs.Shapes.{words_in}
+use Rattle.turn_table.specs.Steps.{Fits}
+use Rattle.turn_table.specs.Views.{note, mark, marking}
+use Rattle.turn_table.proofs.Lookups.{alike, first_put}
 use Rattle.plan_shares.specs.declared.crosses.CrossEnd.{CrossEnd}
 use Rattle.core_rules.specs.Cores.{CoreView}
 use Rattle.share_rules.specs.Places.{count_of, posted_word, taken_word, done_word, round_word, shape_of}
-use Rattle.share_rules.proofs.Holding.{done_marked}
-use Rattle.turn_table.specs.Shapes.{is_marked}
+use Rattle.share_rules.specs.WordLaws.{words_long}
 use Rattle.share_turns.specs.Loads.{HasLoaded, AreDoneMarked}
 use Rattle.share_turns.proofs.Rows.{IsBefore, before_none, before_cases}
-use Rattle.share_turns.proofs.Views.{loaded_none, loaded_on, noted_on, loaded_one, loaded_mark, loaded_else}
+use Rattle.share_turns.proofs.Views.{loaded_none, loaded_on, noted_on}
 
 abbrev pub sender_of : CrossEnd → ℕ
 sender_of end = end.sender
@@ -46,40 +47,19 @@ module _ {B S P : Type 0} (key : CoreView B S P) (from to : CrossEnd → ℕ) (p
     ];
   }
 
--- what the first timelines have done is marked
-pub record DoneTo {B S P : Type 0} (key : CoreView B S P) (v w : View) (n : ℕ) : Type 0 where
-  pub loaded : HasLoaded v w
-  pub shaped : w.shape ≡ shape_of key
-  pub noted : 0 < note w (round_word key)
-  pub round : mark w (round_word key) ≡ note w (round_word key)
-  pub marked : (i : ℕ) → i < n → 0 < mark w (done_word key i)
-  pub done : (i : ℕ) → i < n → 0 < note v (done_word key i) → mark w (done_word key i) ≡ note v (done_word key i)
+module _ {B S P : Type 0} (key : CoreView B S P) where
+  -- a count word has the number of these counts as its mark
+  mark_here : (w : View) (f : ℕ → ℕ) (c : ℕ) → w.shape ≡ shape_of key → c < words_in (shape_of key) → mark (marking w f) c ≡ suc (f c)
+  mark_here w f c shape small = first_put f (words_in w.shape) w.marks c (subst (λ s. c < words_in s) (sym shape) small)
 
-module _ {B S P : Type 0} (key : CoreView B S P) (v : View) where
-  pub done_first : (w : View) → w.shape ≡ shape_of key → HasLoaded v w → 0 < note w (round_word key) → mark w (round_word key) ≡ note w (round_word key) → DoneTo key v w 0
-  done_first w shape h noted round = record { loaded = h; shaped = shape; noted = noted; round = round; marked = λ i low. absurd (omega arith); done = λ i low some. absurd (omega arith) }
-
-  pub done_next : (w : View) (n x : ℕ) → n < count_of key → mark w (done_word key n) ≤ suc x → (0 < note w (done_word key n) → note w (done_word key n) ≡ suc x) → DoneTo key v w n
-      → DoneTo key v (reading w (done_word key n) x) (n + 1)
-  done_next w n x known low fits q =
-      let h = loaded_one w (done_word key n) x low fits in
-      let here : mark (reading w (done_word key n) x) (done_word key n) ≡ suc x =
-      loaded_mark w (done_word key n) x (ap (λ s. is_marked s (done_word key n)) q.shaped ∙ done_marked key n known) in
+  -- all count words were marked, after the round was noted
+  pub done_all : (v w : View) (f : ℕ → ℕ) → w.shape ≡ shape_of key → HasLoaded v w → 0 < note w (round_word key) → Fits w f → AreDoneMarked key v (marking w f)
+  done_all v w f shape h noted fits =
+      let many = words_long key in
       record {
-        loaded = loaded_on v w (reading w (done_word key n) x) q.loaded h;
-        shaped = q.shaped;
-        noted = noted_on w (reading w (done_word key n) x) (round_word key) h q.noted;
-        round = loaded_else w (done_word key n) x (round_word key) (λ e. omega (arith, e, known)) ∙ (q.round ∙ sym (h.notes (round_word key) q.noted));
-        marked = λ i below. alike i n
-            (λ same. subst (λ k. 0 < mark (reading w (done_word key n) x) (done_word key k)) (sym same) (omega (arith, here)))
-            (λ ne. let apart = loaded_else w (done_word key n) x (done_word key i) (λ e. ne (omega arith)) in let old = q.marked i (omega arith) in omega (arith, apart, old));
-        done = λ i below some. alike i n
-            (λ same. let note_is = fits in let kept = q.loaded.notes (done_word key i) some in
-            let at : note w (done_word key i) ≡ note w (done_word key n) = ap (λ k. note w (done_word key k)) same in
-            let is = fits (omega (arith, kept, at, some)) in
-            ap (λ k. mark (reading w (done_word key n) x) (done_word key k)) same ∙ (here ∙ (sym is ∙ (sym at ∙ kept))))
-            (λ ne. loaded_else w (done_word key n) x (done_word key i) (λ e. ne (omega arith)) ∙ q.done i (omega arith) some);
+        noted = noted;
+        round = mark_here w f (round_word key) shape (omega (arith, many)) ∙ sym (fits (round_word key) noted);
+        marked = λ i known. (let is = mark_here w f (done_word key i) shape (omega (arith, many, known)) in omega (arith, is));
+        done = λ i known some. (let kept = h.notes (done_word key i) some in
+            mark_here w f (done_word key i) shape (omega (arith, many, known)) ∙ (sym (fits (done_word key i) (omega (arith, kept, some))) ∙ kept));
       }
-
-  pub done_all : (w : View) (n : ℕ) → count_of key ≤ n → DoneTo key v w n → AreDoneMarked key v w
-  done_all w n all q = record { noted = q.noted; round = q.round; marked = λ i known. q.marked i (omega arith); done = λ i known some. q.done i (omega arith) some }

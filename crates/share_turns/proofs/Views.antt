@@ -1,10 +1,12 @@
 -- What a view says after a step.
 use Rattle.std.proofs.Common.{◌≡◌, ◌≢◌, ℕ, suc, ◌<◌, ◌≤◌, ◌⊎◌, Bool, true, false, cond, ltb, lt-ltb, List, ◌∷◌, refl, sym, ap, ◌∙◌, inl, inr, ⊎_elim, arith}
+use Rattle.std.proofs.lemmas.Bool.{cases_lt}
 use Rattle.turn_table.specs.declared.view.View.{View}
 use Rattle.turn_table.specs.Changes.{at}
-use Rattle.turn_table.specs.Shapes.{Speaks, spoken, is_marked}
-use Rattle.turn_table.specs.Views.{held, lost, note, mark, is_spoken_for, moving_out, moving_home, taking, losing, giving, writing, reading}
-use Rattle.turn_table.proofs.Lookups.{alike, cond_here, cond_else, at_here, at_else, first_one, second_one}
+use Rattle.turn_table.specs.Shapes.{words_in, Speaks, spoken, is_marked}
+use Rattle.turn_table.specs.Views.{held, lost, note, mark, is_spoken_for, moving_out, moving_home, taking, losing, giving, writing, reading, marking}
+use Rattle.turn_table.specs.Steps.{Above}
+use Rattle.turn_table.proofs.Lookups.{alike, cond_here, cond_else, at_here, at_else, first_put, first_left, first_one, second_one}
 use Rattle.share_turns.specs.Holdings.{HoldsOne, HoldsTwo, HasLostOne}
 use Rattle.share_turns.specs.Loads.{HasLoaded}
 
@@ -68,6 +70,18 @@ module _ (v : View) (c n : ℕ) where
       (λ e. second_one (ltb 0 (held v (spoken v.shape c).0)) (ltb 0 (held v (spoken v.shape c).1))
       (lt-ltb 0 (held v (spoken v.shape c).1) (let same : held v (spoken v.shape c).1 ≡ held v p = ap (held v) e in omega arith)))
       says.1)
+
+-- all count words were marked
+pub loaded_all : (v w : View) (f : ℕ → ℕ) → HasLoaded v w → Above w f → HasLoaded v (marking w f)
+loaded_all v w f h above = record {
+  places = h.places;
+  tries = h.tries;
+  notes = h.notes;
+  marks = λ c. (let low = h.marks c in ⊎_elim
+      (λ small. let is = first_put f (words_in w.shape) w.marks c small in let reached = above c in omega (arith, is, reached, low))
+      (λ high. let same = first_left f (words_in w.shape) w.marks c high in omega (arith, same, low))
+      (cases_lt c (words_in w.shape)));
+}
 
 -- ---- writes
 

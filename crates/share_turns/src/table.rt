@@ -319,8 +319,6 @@ impl<'a, B: Behaviour> RunTable<'a, B> {
         ensures marked { AreDoneMarked (key_of self.now.turns.now).value (view_of pass.old) (view_of pass.new) }
     {
         self.note(pass, self.layout.round());
-        for timeline in 0..self.layout.timelines {
-            self.turns.load(pass, self.layout.done(timeline));
-        }
+        self.turns.mark(pass);
     }
 }
