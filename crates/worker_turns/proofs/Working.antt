@@ -1,8 +1,7 @@
 -- What is asked in the parts of a turn, one after the other.
-use Rattle.std.proofs.Common.{◌≡◌, ℕ, ◌+◌, inl, inr, length, refl, sym, ap, ◌∙◌, subst, arith, false, List, ◌++◌, Option, Some, None}
+use Rattle.std.proofs.Common.{◌≡◌, ℕ, ◌+◌, inl, inr, refl, sym, ap, ◌∙◌, subst, arith, false, List, ◌++◌, Option, Some, None}
 use Rattle.turn_table.specs.declared.view.View.{View}
 use Rattle.core_rules.specs.Cores.{CoreView}
-use Rattle.core_rules.proofs.Lists.{get_known}
 use Rattle.share_rules.specs.Places.{mail_place, barrier_place}
 use Rattle.sync_steps.specs.declared.steps.Step.{Step}
 use Rattle.sync_steps.specs.declared.steps.Step.TheVariants.{Execute, Post, Take, Enter, Report, Cross}
@@ -101,7 +100,7 @@ module _ {B S P : Type 0} (key : CoreView B S P) where
 
   module _ (most left last i : ℕ) (v0 v1 v2 v3 v4 v5 : View)
       (t1 : HasLostMore key v0 v1) (t2 : HasLostMore key v1 v2) (t3 : HasLostMore key v2 v3) (t4 : HasLostMore key v3 v4) (t5 : HasLostMore key v4 v5) where
-    module _ (a b c d e : List Made) (pa : AreTakes key i v0 v1 a) (pb : AreRuns most left i b) (pc : AreMeetingsOr key i v2 v3 c) (pd : AreRuns left last i d) (pe : ArePosts key (length key.ends) i v4 v5 e) where
+    module _ (a b c d e : List Made) (pa : AreTakes key i v0 v1 a) (pb : AreRuns most left i b) (pc : AreMeetingsOr key i v2 v3 c) (pd : AreRuns left last i d) (pe : ArePosts key i v4 v5 e) where
       abbrev whole : List Made
       whole = a ++ (b ++ (c ++ (d ++ e)))
 
@@ -151,7 +150,7 @@ module _ {B S P : Type 0} (key : CoreView B S P) where
           | inl l ↦ inl (lost_between key v0 v0 v1 v5 (mail_place key i) (more_none key v0) rest l)
           | inr none_last ↦ inr (last_earlier (Take i) a (b ++ (c ++ (d ++ e))) take_none ∙ none_last)
         ];
-        posts = λ k end found of. elim (pe.done k end (get_known key.ends k end found) found of) [
+        posts = λ k end found of. elim (pe.done k end found of) [
           | inl l ↦ inl (lost_between key v0 v4 v5 v5 (mail_place key end.receiver) (more_then key v0 v1 v4 t1 (more_then key v1 v2 v4 t2 (more_then key v2 v3 v4 t3 t4))) (more_none key v5) l)
           | inr none_last ↦ inr (last_later (Post i end.channel) a (b ++ (c ++ (d ++ e))) (Done NotEnabled) (last_later (Post i end.channel) b (c ++ (d ++ e)) (Done NotEnabled)
               (last_later (Post i end.channel) c (d ++ e) (Done NotEnabled) (last_later (Post i end.channel) d e (Done NotEnabled) none_last))))
@@ -172,23 +171,23 @@ module _ {B S P : Type 0} (key : CoreView B S P) where
       }
 
     abbrev L4 : List Made → Type 0
-    L4 x = (d : List Made) × (e : List Made) × (x ≡ d ++ e) × AreRuns left last i d × ArePosts key (length key.ends) i v4 v5 e
+    L4 x = (d : List Made) × (e : List Made) × (x ≡ d ++ e) × AreRuns left last i d × ArePosts key i v4 v5 e
 
     abbrev L3 : List Made → Type 0
-    L3 x = (c : List Made) × (d : List Made) × (e : List Made) × (x ≡ c ++ (d ++ e)) × AreMeetingsOr key i v2 v3 c × AreRuns left last i d × ArePosts key (length key.ends) i v4 v5 e
+    L3 x = (c : List Made) × (d : List Made) × (e : List Made) × (x ≡ c ++ (d ++ e)) × AreMeetingsOr key i v2 v3 c × AreRuns left last i d × ArePosts key i v4 v5 e
 
     abbrev L2 : List Made → Type 0
-    L2 x = (b : List Made) × (c : List Made) × (d : List Made) × (e : List Made) × (x ≡ b ++ (c ++ (d ++ e))) × AreRuns most left i b × AreMeetingsOr key i v2 v3 c × AreRuns left last i d × ArePosts key (length key.ends) i v4 v5 e
+    L2 x = (b : List Made) × (c : List Made) × (d : List Made) × (e : List Made) × (x ≡ b ++ (c ++ (d ++ e))) × AreRuns most left i b × AreMeetingsOr key i v2 v3 c × AreRuns left last i d × ArePosts key i v4 v5 e
 
     pub worked_asked : (h0 h1 h2 h3 h4 h5 : HandView) → IsAsked h0 h1 (AreTakes key i v0 v1) → IsAsked h1 h2 (AreRuns most left i) → IsAsked h2 h3 (AreMeetingsOr key i v2 v3)
-        → IsAsked h3 h4 (AreRuns left last i) → IsAsked h4 h5 (ArePosts key (length key.ends) i v4 v5) → IsAsked h0 h5 (IsWorked key most i v0 v5)
+        → IsAsked h3 h4 (AreRuns left last i) → IsAsked h4 h5 (ArePosts key i v4 v5) → IsAsked h0 h5 (IsWorked key most i v0 v5)
     worked_asked h0 h1 h2 h3 h4 h5 qa qb qc qd qe =
         asked_then h0 h1 h5 (AreTakes key i v0 v1) L2 (IsWorked key most i v0 v5)
         (λ a x pa q. subst (λ y. IsWorked key most i v0 v5 (a ++ y)) (sym q.4) (worked a q.0 q.1 q.2 q.3 pa q.5 q.6 q.7 q.8))
         qa
         (asked_then h1 h2 h5 (AreRuns most left i) L3 L2 (λ b x pb q. (b, q.0, q.1, q.2, ap (λ y. b ++ y) q.3, pb, q.4, q.5, q.6)) qb
         (asked_then h2 h3 h5 (AreMeetingsOr key i v2 v3) L4 L3 (λ c x pc q. (c, q.0, q.1, ap (λ y. c ++ y) q.2, pc, q.3, q.4)) qc
-        (asked_then h3 h4 h5 (AreRuns left last i) (ArePosts key (length key.ends) i v4 v5) L4 (λ d e pd pe. (d, e, refl, pd, pe)) qd qe)))
+        (asked_then h3 h4 h5 (AreRuns left last i) (ArePosts key i v4 v5) L4 (λ d e pd pe. (d, e, refl, pd, pe)) qd qe)))
 
 -- two, and three, one after the other
 pub asked_two : (h0 h1 h2 : HandView) (one two : List Made → Type 0) → IsAsked h0 h1 one → IsAsked h1 h2 two → IsAsked h0 h2 (λ made. Unit {0})

@@ -91,12 +91,11 @@ module _ {B S P : Type 0} (key : CoreView B S P) where
     pub still : (c : ℕ) → (last_answer (Post i c) made ≡ None) ⊎ WasNotEnabled (Post i c) made
     pub done : (end : CrossEnd) → slice_get key.ends k ≡ Some end → end.sender ≡ i → HasLost v w (mail_place key end.receiver) ⊎ WasNotEnabled (Post i end.channel) made
 
-  -- timeline i posted on the channels of the first n ends
-  pub record ArePosts (n i : ℕ) (v w : View) (made : List Made) : Type 0 where
+  -- timeline i posted on the channel of each end of which it is the sender
+  pub record ArePosts (i : ℕ) (v w : View) (made : List Made) : Type 0 where
     pub all : AreAll (IsPost i) made
     pub runs : runs_in made ≡ 0
-    pub done : (k : ℕ) (end : CrossEnd) → k < n → slice_get key.ends k ≡ Some end → end.sender ≡ i
-        → HasLost v w (mail_place key end.receiver) ⊎ WasNotEnabled (Post i end.channel) made
+    pub done : (k : ℕ) (end : CrossEnd) → slice_get key.ends k ≡ Some end → end.sender ≡ i → HasLost v w (mail_place key end.receiver) ⊎ WasNotEnabled (Post i end.channel) made
 
   -- timeline i met the barrier, where no try for that was lost
   pub record AreMeetingsOr (i : ℕ) (v w : View) (made : List Made) : Type 0 where

@@ -39,7 +39,7 @@ pub(crate) fn take<B: Behaviour>(
     own: &mut Held<Share<B>>,
 ) -> Result<(), Memory>
     requires pass { IsPassOf ⟦<Share<B> as Tenant>⟧ table.now.turns.now pass.old }
-    requires table { IsTableOf (key_of table.now.turns.now).value table.now.ends.now table.now.layout table.now.number }
+    requires table { IsTableOf (key_of table.now.turns.now).value table.now.ends.now table.now.near.now.rows.items table.now.layout table.now.number }
     requires run { IsCoreOfRun (B.valid (key_of table.now.turns.now).value.behaviour) (B.carried (key_of table.now.turns.now).value.behaviour) (B.reaction (key_of table.now.turns.now).value.behaviour) (key_of table.now.turns.now).value }
     requires has { HasTimeline B.valid B.carried B.reaction (key_of table.now.turns.now).value (view_of pass.old) table.now.number own.old }
     ensures pass { IsPassOf ⟦<Share<B> as Tenant>⟧ table.now.turns.now pass.new }
@@ -68,7 +68,7 @@ pub(crate) fn execute<B: Behaviour>(
     left: &mut u32,
 ) -> Result<(), Halt>
     requires pass { IsPassOf ⟦<Share<B> as Tenant>⟧ table.now.turns.now pass.old }
-    requires table { IsTableOf (key_of table.now.turns.now).value table.now.ends.now table.now.layout table.now.number }
+    requires table { IsTableOf (key_of table.now.turns.now).value table.now.ends.now table.now.near.now.rows.items table.now.layout table.now.number }
     requires run { IsCoreOfRun (B.valid (key_of table.now.turns.now).value.behaviour) (B.carried (key_of table.now.turns.now).value.behaviour) (B.reaction (key_of table.now.turns.now).value.behaviour) (key_of table.now.turns.now).value }
     requires has { HasTimeline B.valid B.carried B.reaction (key_of table.now.turns.now).value (view_of pass.old) table.now.number own.old }
     requires behaviour { behaviour.now ≡ (key_of table.now.turns.now).value.behaviour }
@@ -86,7 +86,8 @@ pub(crate) fn execute<B: Behaviour>(
     executed
 }
 
-// Posts on each channel that goes from the timeline to another one, where the turn of that one's mail is free.
+// Posts on each channel that goes from the timeline to another one, where the turn of that one's mail is free. They are among
+// those of the timeline's row.
 pub(crate) fn post<B: Behaviour>(
     table: &RunTable<B>,
     pass: &mut Pass,
@@ -94,7 +95,7 @@ pub(crate) fn post<B: Behaviour>(
     own: &mut Held<Share<B>>,
 ) -> Result<(), Memory>
     requires pass { IsPassOf ⟦<Share<B> as Tenant>⟧ table.now.turns.now pass.old }
-    requires table { IsTableOf (key_of table.now.turns.now).value table.now.ends.now table.now.layout table.now.number }
+    requires table { IsTableOf (key_of table.now.turns.now).value table.now.ends.now table.now.near.now.rows.items table.now.layout table.now.number }
     requires run { IsCoreOfRun (B.valid (key_of table.now.turns.now).value.behaviour) (B.carried (key_of table.now.turns.now).value.behaviour) (B.reaction (key_of table.now.turns.now).value.behaviour) (key_of table.now.turns.now).value }
     requires has { HasTimeline B.valid B.carried B.reaction (key_of table.now.turns.now).value (view_of pass.old) table.now.number own.old }
     ensures pass { IsPassOf ⟦<Share<B> as Tenant>⟧ table.now.turns.now pass.new }
@@ -102,10 +103,10 @@ pub(crate) fn post<B: Behaviour>(
     ensures tries { HasLostMore (key_of table.now.turns.now).value (view_of pass.old) (view_of pass.new) }
     ensures told { IsToldOn hand.old hand.new }
     ensures steps { IsAsked hand.old hand.new (AreSteps (key_of table.now.turns.now).value 0 table.now.number) }
-    ensures done { OnOk result (IsAsked hand.old hand.new (ArePosts (key_of table.now.turns.now).value (length (key_of table.now.turns.now).value.ends) table.now.number (view_of pass.old) (view_of pass.new))) }
+    ensures done { OnOk result (IsAsked hand.old hand.new (ArePosts (key_of table.now.turns.now).value table.now.number (view_of pass.old) (view_of pass.new))) }
 {
-    for (place, end) in table.ends.iter().enumerate() {
-        post_at(table, pass, hand, own, place as u32, end)?;
+    for &place in table.near.of(table.number) {
+        post_at(table, pass, hand, own, place, &table.ends[place as usize])?;
     }
     Ok(())
 }
@@ -120,7 +121,7 @@ fn post_at<B: Behaviour>(
     end: &CrossEnd,
 ) -> Result<(), Memory>
     requires pass { IsPassOf ⟦<Share<B> as Tenant>⟧ table.now.turns.now pass.old }
-    requires table { IsTableOf (key_of table.now.turns.now).value table.now.ends.now table.now.layout table.now.number }
+    requires table { IsTableOf (key_of table.now.turns.now).value table.now.ends.now table.now.near.now.rows.items table.now.layout table.now.number }
     requires run { IsCoreOfRun (B.valid (key_of table.now.turns.now).value.behaviour) (B.carried (key_of table.now.turns.now).value.behaviour) (B.reaction (key_of table.now.turns.now).value.behaviour) (key_of table.now.turns.now).value }
     requires has { HasTimeline B.valid B.carried B.reaction (key_of table.now.turns.now).value (view_of pass.old) table.now.number own.old }
     requires end { slice_get (key_of table.now.turns.now).value.ends place ≡ Some end.now }
@@ -147,7 +148,7 @@ fn post_on<B: Behaviour>(
     end: &CrossEnd,
 ) -> Result<(), Memory>
     requires pass { IsPassOf ⟦<Share<B> as Tenant>⟧ table.now.turns.now pass.old }
-    requires table { IsTableOf (key_of table.now.turns.now).value table.now.ends.now table.now.layout table.now.number }
+    requires table { IsTableOf (key_of table.now.turns.now).value table.now.ends.now table.now.near.now.rows.items table.now.layout table.now.number }
     requires run { IsCoreOfRun (B.valid (key_of table.now.turns.now).value.behaviour) (B.carried (key_of table.now.turns.now).value.behaviour) (B.reaction (key_of table.now.turns.now).value.behaviour) (key_of table.now.turns.now).value }
     requires has { HasTimeline B.valid B.carried B.reaction (key_of table.now.turns.now).value (view_of pass.old) table.now.number own.old }
     requires end { slice_get (key_of table.now.turns.now).value.ends place ≡ Some end.now }
@@ -178,7 +179,7 @@ pub(crate) fn meet<B: Behaviour>(
     seen: &mut Seen,
 ) -> Result<(), Memory>
     requires pass { IsPassOf ⟦<Share<B> as Tenant>⟧ table.now.turns.now pass.old }
-    requires table { IsTableOf (key_of table.now.turns.now).value table.now.ends.now table.now.layout table.now.number }
+    requires table { IsTableOf (key_of table.now.turns.now).value table.now.ends.now table.now.near.now.rows.items table.now.layout table.now.number }
     requires run { IsCoreOfRun (B.valid (key_of table.now.turns.now).value.behaviour) (B.carried (key_of table.now.turns.now).value.behaviour) (B.reaction (key_of table.now.turns.now).value.behaviour) (key_of table.now.turns.now).value }
     requires has { HasTimeline B.valid B.carried B.reaction (key_of table.now.turns.now).value (view_of pass.old) table.now.number own.old }
     ensures pass { IsPassOf ⟦<Share<B> as Tenant>⟧ table.now.turns.now pass.new }
@@ -207,7 +208,7 @@ fn meet_at<B: Behaviour>(
     barrier: &mut Held<Share<B>>,
 ) -> Result<(), Memory>
     requires pass { IsPassOf ⟦<Share<B> as Tenant>⟧ table.now.turns.now pass.old }
-    requires table { IsTableOf (key_of table.now.turns.now).value table.now.ends.now table.now.layout table.now.number }
+    requires table { IsTableOf (key_of table.now.turns.now).value table.now.ends.now table.now.near.now.rows.items table.now.layout table.now.number }
     requires run { IsCoreOfRun (B.valid (key_of table.now.turns.now).value.behaviour) (B.carried (key_of table.now.turns.now).value.behaviour) (B.reaction (key_of table.now.turns.now).value.behaviour) (key_of table.now.turns.now).value }
     requires at { AreAtBarrier B.valid B.carried B.reaction (key_of table.now.turns.now).value (view_of pass.old) table.now.number own.old barrier.old }
     ensures pass { IsPassOf ⟦<Share<B> as Tenant>⟧ table.now.turns.now pass.new }
@@ -233,7 +234,7 @@ fn meet_once<B: Behaviour>(
     barrier: &mut Held<Share<B>>,
 ) -> Result<bool, Memory>
     requires pass { IsPassOf ⟦<Share<B> as Tenant>⟧ table.now.turns.now pass.old }
-    requires table { IsTableOf (key_of table.now.turns.now).value table.now.ends.now table.now.layout table.now.number }
+    requires table { IsTableOf (key_of table.now.turns.now).value table.now.ends.now table.now.near.now.rows.items table.now.layout table.now.number }
     requires run { IsCoreOfRun (B.valid (key_of table.now.turns.now).value.behaviour) (B.carried (key_of table.now.turns.now).value.behaviour) (B.reaction (key_of table.now.turns.now).value.behaviour) (key_of table.now.turns.now).value }
     requires at { AreAtBarrier B.valid B.carried B.reaction (key_of table.now.turns.now).value (view_of pass.old) table.now.number own.old barrier.old }
     ensures pass { IsPassOf ⟦<Share<B> as Tenant>⟧ table.now.turns.now pass.new }

@@ -8,6 +8,7 @@ ghost use Rattle.timeline.specs.declared.answers.Ran.TheVariants.{Over as WasOve
 ghost use Rattle.sync_steps.specs.declared.steps.Step.TheVariants.{Execute};
 ghost use Rattle.core_rules.specs.Cores.{IsCoreOfRun};
 ghost use Rattle.share_rules.specs.Places.{count_of, barrier_place, round_word};
+ghost use Rattle.share_turns.specs.Rows.{AreNear};
 ghost use Rattle.share_turns.specs.Tables.{IsTableOf};
 ghost use Rattle.share_turns.specs.Holdings.{HasTimeline};
 ghost use Rattle.worker_hands.specs.declared.hand.Answer.TheVariants.{Executed};
@@ -18,7 +19,7 @@ ghost use Rattle.worker_turns.specs.Working.{HasLost, HasLostMore, IsWorked};
 ghost use Rattle.worker_turns.specs.Turning.{most_executed, AreSteps};
 
 use crate::task::{Seen, execute, meet, post, take};
-use share_turns::{Layout, RunTable, Share};
+use share_turns::{Layout, Near, RunTable, Share};
 use sim_base::Gate;
 use ssf_model::Behaviour;
 use std::alloc::Global;
@@ -60,6 +61,7 @@ impl Worker {
     ghost use Rattle.sync_steps.specs.declared.steps.Step.TheVariants.{Execute};
     ghost use Rattle.core_rules.specs.Cores.{IsCoreOfRun};
     ghost use Rattle.share_rules.specs.Places.{count_of, barrier_place, round_word};
+    ghost use Rattle.share_turns.specs.Rows.{AreNear};
     ghost use Rattle.share_turns.specs.Tables.{IsTableOf};
     ghost use Rattle.share_turns.specs.Holdings.{HasTimeline};
     ghost use Rattle.worker_hands.specs.declared.hand.Answer.TheVariants.{Executed};
@@ -132,6 +134,7 @@ impl Worker {
         alloc: Global,
         behaviour: &B,
         ends: &[CrossEnd],
+        near: &Near,
         turns: &Turns<Share<B>>,
         gate: &mut G,
         hand: &mut Hand,
@@ -142,6 +145,7 @@ impl Worker {
         requires run { IsCoreOfRun (B.valid (key_of turns.now).value.behaviour) (B.carried (key_of turns.now).value.behaviour) (B.reaction (key_of turns.now).value.behaviour) (key_of turns.now).value }
         requires behaviour { behaviour.now ≡ (key_of turns.now).value.behaviour }
         requires ends { ends.now ≡ (key_of turns.now).value.ends }
+        requires near { AreNear (key_of turns.now).value.ends (count_of (key_of turns.now).value) near.now.rows.items }
         requires timeline { timeline < count_of (key_of turns.now).value }
         requires places { barrier_place (key_of turns.now).value + 1 < 2 ^ 32 }
         requires words { round_word (key_of turns.now).value + 1 < 2 ^ 32 }
@@ -161,6 +165,7 @@ impl Worker {
         let table = RunTable {
             turns,
             ends,
+            near,
             layout: Layout {
                 timelines: turns.places() / 2,
                 ends: ends.len() as u32,
@@ -184,7 +189,7 @@ impl Worker {
         own: &mut Held<Share<B>>,
     ) -> Turned
         requires pass { IsPassOf ⟦<Share<B> as Tenant>⟧ table.now.turns.now (pass_of self.old) }
-        requires table { IsTableOf (key_of table.now.turns.now).value table.now.ends.now table.now.layout table.now.number }
+        requires table { IsTableOf (key_of table.now.turns.now).value table.now.ends.now table.now.near.now.rows.items table.now.layout table.now.number }
         requires run { IsCoreOfRun (B.valid (key_of table.now.turns.now).value.behaviour) (B.carried (key_of table.now.turns.now).value.behaviour) (B.reaction (key_of table.now.turns.now).value.behaviour) (key_of table.now.turns.now).value }
         requires has { HasTimeline B.valid B.carried B.reaction (key_of table.now.turns.now).value (view_of (pass_of self.old)) table.now.number own.old }
         requires behaviour { behaviour.now ≡ (key_of table.now.turns.now).value.behaviour }
@@ -216,7 +221,7 @@ impl Worker {
         own: &mut Held<Share<B>>,
     ) -> Turned
         requires pass { IsPassOf ⟦<Share<B> as Tenant>⟧ table.now.turns.now (pass_of self.old) }
-        requires table { IsTableOf (key_of table.now.turns.now).value table.now.ends.now table.now.layout table.now.number }
+        requires table { IsTableOf (key_of table.now.turns.now).value table.now.ends.now table.now.near.now.rows.items table.now.layout table.now.number }
         requires run { IsCoreOfRun (B.valid (key_of table.now.turns.now).value.behaviour) (B.carried (key_of table.now.turns.now).value.behaviour) (B.reaction (key_of table.now.turns.now).value.behaviour) (key_of table.now.turns.now).value }
         requires has { HasTimeline B.valid B.carried B.reaction (key_of table.now.turns.now).value (view_of (pass_of self.old)) table.now.number own.old }
         requires behaviour { behaviour.now ≡ (key_of table.now.turns.now).value.behaviour }
@@ -247,7 +252,7 @@ impl Worker {
         own: &mut Held<Share<B>>,
     ) -> Result<(), Halt>
         requires pass { IsPassOf ⟦<Share<B> as Tenant>⟧ table.now.turns.now (pass_of self.old) }
-        requires table { IsTableOf (key_of table.now.turns.now).value table.now.ends.now table.now.layout table.now.number }
+        requires table { IsTableOf (key_of table.now.turns.now).value table.now.ends.now table.now.near.now.rows.items table.now.layout table.now.number }
         requires run { IsCoreOfRun (B.valid (key_of table.now.turns.now).value.behaviour) (B.carried (key_of table.now.turns.now).value.behaviour) (B.reaction (key_of table.now.turns.now).value.behaviour) (key_of table.now.turns.now).value }
         requires has { HasTimeline B.valid B.carried B.reaction (key_of table.now.turns.now).value (view_of (pass_of self.old)) table.now.number own.old }
         requires behaviour { behaviour.now ≡ (key_of table.now.turns.now).value.behaviour }
