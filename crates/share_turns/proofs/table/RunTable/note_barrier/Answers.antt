@@ -12,7 +12,7 @@ use Rattle.share_turns.proofs.Noting.{done_all}
 use Rattle.share_turns.proofs.table.RunTable.note_barrier.Goals as goal
 
 pub note-requires-clause-speaks : goal.note-requires-clause-speaks
-note-requires-clause-speaks g c = (barrier_place (key_of c.args.self.now.turns.now).value, subst (λ w. Speaks (shape_of (key_of c.args.self.now.turns.now).value) w (barrier_place (key_of c.args.self.now.turns.now).value)) (sym (let ends = c.requires.table.count in let lines = c.requires.table.timelines in let e : c.round.result ≡ round_word (key_of c.args.self.now.turns.now).value = omega (arith, ends, lines, c.round.ensures) in e)) (round_of_barrier (key_of c.args.self.now.turns.now).value), c.requires.held)
+note-requires-clause-speaks g c κs within = (barrier_place (key_of c.args.self.now.turns.now).value, subst (λ w. Speaks (shape_of (key_of c.args.self.now.turns.now).value) w (barrier_place (key_of c.args.self.now.turns.now).value)) (sym (let ends = c.requires.table.count in let lines = c.requires.table.timelines in let e : c.round.result ≡ round_word (key_of c.args.self.now.turns.now).value = omega (arith, ends, lines, c.round.ensures) in e)) (round_of_barrier (key_of c.args.self.now.turns.now).value), c.requires.held)
 
 pub returns-clause-loaded : goal.returns-clause-loaded
 returns-clause-loaded g c = let m = c.mark.ensures.marks in
