@@ -50,6 +50,8 @@ pub enum Turned {
 pub struct Worker {
     pub(crate) pass: Pass,
     pub(crate) seen: Seen,
+    /// Whether the last turn found something to do.
+    pub(crate) moved: bool,
 }
 
 impl Worker {
@@ -81,6 +83,7 @@ impl Worker {
                 ended: false,
                 round: 0,
             },
+            moved: false,
         }
     }
 
@@ -88,7 +91,7 @@ impl Worker {
     pub fn into_pass(self) -> Pass
         ensures { result ≡ pass_of self }
     {
-        let Worker { pass, seen: _seen } = self;
+        let Worker { pass, .. } = self;
         pass
     }
 
@@ -100,6 +103,11 @@ impl Worker {
     /// The barrier's round when the worker last held it. A hint: no contract speaks of it.
     pub fn round_seen(&self) -> u64 {
         self.seen.round
+    }
+
+    /// Whether the timeline's lower bound rose in the last turn. A hint: no contract speaks of it.
+    pub fn has_moved(&self) -> bool {
+        self.moved
     }
 
     /// Whether the stop word stands.
@@ -159,6 +167,7 @@ impl Worker {
         ensures over { result ≡ Turned.Over → IsAsked hand.old hand.new (λ made. last_answer (Execute timeline) made ≡ Some (Executed WasOver)) }
         ensures worked { result ≡ Turned.Worked → IsAsked hand.old hand.new (IsWorked (key_of turns.now).value most_executed timeline (view_of (pass_of self.old)) (view_of (pass_of self.new))) }
     {
+        self.moved = false;
         let Some(turn) = turns.try_take(&mut self.pass, timeline) else {
             return Turned::Nothing;
         };
@@ -208,7 +217,9 @@ impl Worker {
         if !gate.may_go(table.number, bound) {
             return Turned::Stopped;
         }
-        self.work(alloc, behaviour, table, hand, own)
+        let turned = self.work(alloc, behaviour, table, hand, own);
+        self.moved = own.value().timeline().lower_bound() > bound;
+        turned
     }
 
     // Makes the steps of a turn.
