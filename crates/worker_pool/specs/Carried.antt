@@ -1,5 +1,7 @@
 -- What became of the parts of a run.
-use Rattle.std.specs.Prelude.{ℕ, ◌≡◌, ◌≤◌, ◌<◌, ◌+◌, ◌^◌, List, Some, slice_get}
+use Rattle.std.specs.Prelude.{ℕ, ◌≡◌, ◌≤◌, ◌<◌, ◌+◌, ◌^◌, List, Some, slice_get, Vec}
+use Rattle.std.specs.Global.{Global}
+use Rattle.share_turns.specs.Rows.{AreNear}
 use Rattle.ssf_model.specs.Reaction.{Reaction, Validity}
 use Rattle.plan_shares.specs.declared.crosses.CrossEnd.{CrossEnd}
 use Rattle.timeline.specs.View.{TimelineOf}
@@ -35,10 +37,11 @@ module _ {B S P : Type 0} (valid : Validity S) (carried : P → Type 0) (r : Rea
     pub safe : safe_bound_in core ≤ safe_bound_in after
 
 module _ {B S P : Type 0} (valid : B → Validity S) (carried : B → P → Type 0) (reaction : B → Reaction S P) where
-  -- workers can take turns at a table of these parts, with this behaviour and these ends
-  pub record CanWork (key : CoreView B S P) (behaviour : B) (ends : List CrossEnd) : Type 0 where
+  -- workers can take turns at a table of these parts, with this behaviour, these ends and this index of them
+  pub record CanWork (key : CoreView B S P) (behaviour : B) (ends : List CrossEnd) (rows : List (Vec ℕ Global)) : Type 0 where
     pub run : IsCoreOfRun (valid key.behaviour) (carried key.behaviour) (reaction key.behaviour) key
     pub own : behaviour ≡ key.behaviour
     pub ends_are : ends ≡ key.ends
     pub some : 0 < count_of key
     pub few : AreFew key
+    pub near : AreNear key.ends (count_of key) rows

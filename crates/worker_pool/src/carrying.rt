@@ -12,7 +12,7 @@ ghost use Rattle.worker_pool.specs.Carried.{CanWork};
 
 use crate::lane::{Lane, lend_all, take_all_back};
 use crate::route::Route;
-use share_turns::Share;
+use share_turns::{Near, Share};
 use sim_base::Gate;
 use ssf_model::Behaviour;
 use std::alloc::Global;
@@ -33,6 +33,8 @@ pub(crate) struct Work<'a, B: Behaviour> {
     /// The behaviour, and the channels between timelines.
     pub(crate) behaviour: &'a B,
     pub(crate) ends: &'a [CrossEnd],
+    /// By which the channels of one timeline are found.
+    pub(crate) near: &'a Near,
     /// How many workers there are.
     pub(crate) workers: u32,
     /// In this round of the barrier they stop.
@@ -47,7 +49,7 @@ pub(crate) fn carry_turns<R: Threads + Wait + Sync, B: Behaviour + Sync, G: Gate
     mut passes: Vec<Pass>,
     lanes: &mut [Lane<G>],
 ) -> Vec<Share<B>>
-    requires work { CanWork B.valid B.carried B.reaction (key_of turns).value work.now.behaviour.now work.now.ends.now }
+    requires work { CanWork B.valid B.carried B.reaction (key_of turns).value work.now.behaviour.now work.now.ends.now work.now.near.now.rows.items }
     requires workers { work.now.workers ≡ length lanes.old }
     requires few { work.now.workers < 2 ^ 32 }
     requires some { 1 ≤ length lanes.old }
@@ -71,7 +73,7 @@ fn carry_lanes<R: Threads + Wait + Sync, B: Behaviour + Sync, G: Gate + Send>(
     turns: &Turns<Share<B>>,
     lanes: &mut [Lane<G>],
 )
-    requires work { CanWork B.valid B.carried B.reaction (key_of turns.now).value work.now.behaviour.now work.now.ends.now }
+    requires work { CanWork B.valid B.carried B.reaction (key_of turns.now).value work.now.behaviour.now work.now.ends.now work.now.near.now.rows.items }
     requires workers { work.now.workers ≡ length lanes.old }
     requires few { work.now.workers < 2 ^ 32 }
     requires passes { EachIs (HasPass (IsFreeIn (table_of turns.now) (shape_of (key_of turns.now).value))) lanes.old }
@@ -84,7 +86,7 @@ fn carry_lanes<R: Threads + Wait + Sync, B: Behaviour + Sync, G: Gate + Send>(
         lanes,
         MOST_WORKERS,
         &|place: usize, lane: &mut Lane<G>|
-            requires work { CanWork B.valid B.carried B.reaction (key_of turns.now).value work.now.behaviour.now work.now.ends.now }
+            requires work { CanWork B.valid B.carried B.reaction (key_of turns.now).value work.now.behaviour.now work.now.ends.now work.now.near.now.rows.items }
             requires place { place < work.now.workers }
             requires few { work.now.workers < 2 ^ 32 }
             requires pass { HasPass (IsFreeIn (table_of turns.now) (shape_of (key_of turns.now).value)) lane.old }
@@ -103,7 +105,7 @@ fn carry<R: Wait, B: Behaviour + Sync, G: Gate>(
     lane: &mut Lane<G>,
     place: u32,
 )
-    requires work { CanWork B.valid B.carried B.reaction (key_of turns.now).value work.now.behaviour.now work.now.ends.now }
+    requires work { CanWork B.valid B.carried B.reaction (key_of turns.now).value work.now.behaviour.now work.now.ends.now work.now.near.now.rows.items }
     requires place { place < work.now.workers }
     requires pass { HasPass (IsFreeIn (table_of turns.now) (shape_of (key_of turns.now).value)) lane.old }
     requires idle { IsIdle G.stops lane.old }
@@ -124,7 +126,7 @@ fn take_turns<R: Wait, B: Behaviour + Sync, G: Gate>(
     gate: &mut G,
     place: u32,
 ) -> Turned
-    requires work { CanWork B.valid B.carried B.reaction (key_of turns.now).value work.now.behaviour.now work.now.ends.now }
+    requires work { CanWork B.valid B.carried B.reaction (key_of turns.now).value work.now.behaviour.now work.now.ends.now work.now.near.now.rows.items }
     requires place { place < work.now.workers }
     requires pass { IsPassOf ⟦<Share<B> as Tenant>⟧ turns.now (pass_of worker.old) }
     requires free { HoldsNone (pass_of worker.old) }
@@ -140,11 +142,11 @@ fn take_turns<R: Wait, B: Behaviour + Sync, G: Gate>(
         if route.is_at_look() && worker.is_stopped(turns) {
             break;
         }
-        let round = worker.round_seen();
         turned = worker.turn(
             work.alloc,
             work.behaviour,
             work.ends,
+            work.near,
             turns,
             gate,
             &mut hand,
@@ -154,8 +156,7 @@ fn take_turns<R: Wait, B: Behaviour + Sync, G: Gate>(
             worker.stop(turns);
             break;
         }
-        // A new round of the barrier is the sign that there was something to do.
-        if route.go_on(worker.round_seen() > round) {
+        if route.go_on(worker.has_moved()) {
             yield_now();
         }
     }

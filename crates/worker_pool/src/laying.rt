@@ -2,7 +2,8 @@
 
 ghost use Rattle.std.specs.Prelude.{◌≡◌, ◌+◌, ◌<◌, ◌≤◌, ◌∷◌, ◌++◌, [], map, IfOk, IsTrue, vec_len, vec_capacity};
 ghost use Rattle.core_rules.specs.Cores.{IsCoreOfRun};
-ghost use Rattle.share_rules.specs.Places.{posted_on, taken_from, executed_in, counts_of};
+ghost use Rattle.share_rules.specs.Places.{posted_on, taken_from, executed_in, count_of, counts_of};
+ghost use Rattle.share_turns.specs.Rows.{AreNear};
 ghost use Rattle.share_turns.specs.declared.share.Share.{Share as ShareValue};
 ghost use Rattle.share_turns.specs.Shares.{IsTimeline, IsMail, IsBarrier};
 ghost use Rattle.sync_core.specs.Cores.{core_of};
@@ -11,7 +12,7 @@ ghost use Rattle.worker_pool.specs.Laid.{of_timelines, of_mails, laid_out, LastA
 
 use appointments::Mail;
 use barrier_window::Barrier;
-use share_turns::Share;
+use share_turns::{Near, Share};
 use sim_base::Memory;
 use ssf_model::Behaviour;
 use std::alloc::Global;
@@ -21,15 +22,37 @@ use timeline::Timeline;
 /// Of at most so many timelines and channels between them, 32 bits can tell all places and count words.
 const MOST_PARTS: usize = 1_000_000_000;
 
+/// What stands beside the values in a table: the numbers of the count words, and the index of the channels.
+#[derive(Drop)]
+pub(crate) struct Tables {
+    pub(crate) counts: Vec<u64>,
+    pub(crate) near: Near,
+}
+
+/// What stands beside the values of these parts in a table, where 32 bits can tell all places and count words.
+pub(crate) fn tables_in<B: Behaviour>(alloc: Global, parts: &Parts<B>) -> Result<Tables, Memory>
+    requires run { IsCoreOfRun (B.valid parts.now.behaviour) (B.carried parts.now.behaviour) (B.reaction parts.now.behaviour) (core_of parts.now) }
+    ensures few { IfOk result (λ tables. AreFew (core_of parts.now)) }
+    ensures counts { IfOk result (λ tables. tables.counts.items ≡ counts_of (core_of parts.now)) }
+    ensures near { IfOk result (λ tables. AreNear parts.now.ends.items (count_of (core_of parts.now)) tables.near.rows.items) }
+{
+    if !are_few(parts) {
+        return Err(Memory);
+    }
+    let counts = counts_in(alloc, parts)?;
+    let near = Near::new(alloc, parts.ends.as_slice(), parts.timelines.len() as u32)?;
+    Ok(Tables { counts, near })
+}
+
 /// Whether 32 bits can tell all places and count words.
-pub(crate) fn are_few<B: Behaviour>(parts: &Parts<B>) -> bool
+fn are_few<B: Behaviour>(parts: &Parts<B>) -> bool
     ensures { IsTrue result → AreFew (core_of parts.now) }
 {
     parts.timelines.len() <= MOST_PARTS && parts.ends.len() <= MOST_PARTS
 }
 
 /// The numbers of the count words.
-pub(crate) fn counts_in<B: Behaviour>(alloc: Global, parts: &Parts<B>) -> Result<Vec<u64>, Memory>
+fn counts_in<B: Behaviour>(alloc: Global, parts: &Parts<B>) -> Result<Vec<u64>, Memory>
     requires run { IsCoreOfRun (B.valid parts.now.behaviour) (B.carried parts.now.behaviour) (B.reaction parts.now.behaviour) (core_of parts.now) }
     requires few { AreFew (core_of parts.now) }
     ensures { IfOk result (λ counts. counts.items ≡ counts_of (core_of parts.now)) }

@@ -16,7 +16,7 @@ ghost use Rattle.worker_pool.specs.Carried.{AreSince, AreGathered, AreCarriedOn,
 use crate::carrying::{MOST_WORKERS, Work, carry_turns};
 use crate::ending::end_of;
 use crate::lane::{Lane, clear_all};
-use crate::laying::{are_few, counts_in, gather_into, lay_out};
+use crate::laying::{Tables, gather_into, lay_out, tables_in};
 use share_turns::Share;
 use sim_base::{Gate, Memory};
 use ssf_model::Behaviour;
@@ -153,10 +153,7 @@ fn carry_parts<R: Threads + Wait + Sync, B: Behaviour + Sync, G: Gate + Send>(
     if parts.timelines.is_empty() {
         return (parts, false);
     }
-    if !are_few(&parts) {
-        return (parts, true);
-    }
-    let Ok(counts) = counts_in(alloc, &parts) else {
+    let Ok(tables) = tables_in(alloc, &parts) else {
         return (parts, true);
     };
     let count = parts.timelines.len();
@@ -174,11 +171,13 @@ fn carry_parts<R: Threads + Wait + Sync, B: Behaviour + Sync, G: Gate + Send>(
         before,
         starts,
     } = parts;
+    let Tables { counts, near } = tables;
     lay_out(&mut timelines, &mut mails, barrier, &mut values);
     let work = Work {
         alloc,
         behaviour: &behaviour,
         ends: ends.as_slice(),
+        near: &near,
         workers: lanes.len() as u32,
         last,
     };
@@ -207,7 +206,7 @@ fn carry_values<R: Threads + Wait + Sync, B: Behaviour + Sync, G: Gate + Send>(
     counts: Vec<u64>,
     lanes: &mut [Lane<G>],
 ) -> (Vec<Share<B>>, bool)
-    requires work { CanWork B.valid B.carried B.reaction about.now.value work.now.behaviour.now work.now.ends.now }
+    requires work { CanWork B.valid B.carried B.reaction about.now.value work.now.behaviour.now work.now.ends.now work.now.near.now.rows.items }
     requires workers { work.now.workers ≡ length lanes.old }
     requires few { work.now.workers < 2 ^ 32 }
     requires some { 1 ≤ length lanes.old }

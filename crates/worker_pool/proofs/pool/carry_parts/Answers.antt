@@ -17,12 +17,6 @@ returns-then-is_empty-clause-gathered g c = not_shared g.B.Behaviour.valid g.B.B
 pub returns-then-is_empty-clause-lanes : goal.returns-then-is_empty-clause-lanes
 returns-then-is_empty-clause-lanes g c = still_carried g.G.Gate.stops c.args.lanes.now c.requires.idle
 
-pub returns-then-not-are_few-clause-gathered : goal.returns-then-not-are_few-clause-gathered
-returns-then-not-are_few-clause-gathered g c = not_shared g.B.Behaviour.valid g.B.Behaviour.carried g.B.Behaviour.reaction (core_of c.args.parts) c.requires.run (λ i t own. (c.requires.ordered.each i t own).crosses)
-
-pub returns-then-not-are_few-clause-lanes : goal.returns-then-not-are_few-clause-lanes
-returns-then-not-are_few-clause-lanes g c = still_carried g.G.Gate.stops c.args.lanes.now c.requires.idle
-
 pub returns-in_default-clause-gathered : goal.returns-in_default-clause-gathered
 returns-in_default-clause-gathered g c = not_shared g.B.Behaviour.valid g.B.Behaviour.carried g.B.Behaviour.reaction (core_of c.args.parts) c.requires.run (λ i t own. (c.requires.ordered.each i t own).crosses)
 
@@ -36,12 +30,12 @@ pub returns-in_default-with_capacity-clause-lanes : goal.returns-in_default-with
 returns-in_default-with_capacity-clause-lanes g c = still_carried g.G.Gate.stops c.args.lanes.now c.requires.idle
 
 pub carry_values-gathered-requires-clause-counts : goal.carry_values-gathered-requires-clause-counts
-carry_values-gathered-requires-clause-counts g c κs within = c.in-Ok.counts.ok.0 ∙ (ap length c.in-Ok.ensures ∙ (counts_long (core_of c.args.parts) ∙ ap (λ k. words_in (shape_of k)) c.requires.own))
+carry_values-gathered-requires-clause-counts g c κs within = c.in-Ok.tables.counts.ok.0 ∙ (ap length c.in-Ok.ensures.counts ∙ (counts_long (core_of c.args.parts) ∙ ap (λ k. words_in (shape_of k)) c.requires.own))
 
 pub carry_values-gathered-requires-clause-values : goal.carry_values-gathered-requires-clause-values
 carry_values-gathered-requires-clause-values g c κs within =
     let home = laid_home g.B.Behaviour.valid g.B.Behaviour.carried g.B.Behaviour.reaction (core_of c.args.parts) c.requires.run (λ i t own. (c.requires.ordered.each i t own).crosses) c.args.about.now.value c.requires.own
-    c.lay_out.new.values.items c.lay_out.ensures.values c.in-Ok.counts.items c.in-Ok.ensures in
+    c.lay_out.new.values.items c.lay_out.ensures.values c.in-Ok.tables.counts.items c.in-Ok.ensures.counts in
     record {
       places = sym (map_length share_of c.lay_out.new.values.items) ∙ home.places;
       sound = λ p x at. home.sound p (share_of x) (elem_mapped share_of c.lay_out.new.values.items p x at);
