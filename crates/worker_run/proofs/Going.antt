@@ -53,7 +53,7 @@ use Rattle.worker_pool.specs.declared.pool.PoolEnd.{PoolEnd}
 use Rattle.worker_pool.specs.declared.pool.PoolEnd.TheVariants as pool
 use Rattle.worker_pool.specs.Carried.{AreSince}
 use Rattle.worker_run.specs.Working.{IfStopped}
-use Rattle.worker_run.specs.Going.{KeepsFrom, IsUnderWay, IsStopped, HasAdvanced, IfFurther, IfOver, IsCaused, has_finished, piece_bound, piece_left, outcome}
+use Rattle.worker_run.specs.Going.{KeepsFrom, IsUnderWay, IsStopped, HasAdvanced, IfFurther, IfOver, IfOn, IsCaused, has_finished, piece_bound, piece_left, outcome}
 
 tally_goes_on : (a b c : Totals) (xs ys : List Entry) → IsTallied a b xs → IsTallied b c ys → IsTallied a c (xs ++ ys)
 tally_goes_on a b c xs ys p q told first = q (told ++ xs) (p told first) ∙ ap totals_of (append_assoc told xs ys)
@@ -447,6 +447,14 @@ stopped_by (pool.Stopped worker) below Q h = h worker refl
 stopped_by (pool.OverBudget i) below Q h = tt
 stopped_by pool.Memory below Q h = tt
 stopped_by pool.Crossed below Q h = tt
+
+-- where no gate has stopped a worker
+pub is_on : (end : PoolEnd) (below : ℕ) (P : Type 0) → (((worker : ℕ) → end ≡ pool.Stopped worker → ⊥) → P) → IfOn (outcome end below) P
+is_on pool.Finished below P h = h (λ worker is. absurd (cc))
+is_on (pool.Stopped worker) below P h = tt
+is_on (pool.OverBudget i) below P h = h (λ worker is. absurd (cc))
+is_on pool.Memory below P h = tt
+is_on pool.Crossed below P h = h (λ worker is. absurd (cc))
 
 -- a refusal's fault, as it is read off the answer
 pub fault_is : (r : Result (Unit {0}) MergeFault) (e f : MergeFault) → r ≡ Err e → (values_d (result_of.enum unit merge_fault.the_row) 1 (WriteFault, tt) r).0 ≡ f → r ≡ Err f

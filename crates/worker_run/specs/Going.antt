@@ -23,7 +23,7 @@ use Rattle.worker_run.specs.declared.running.WorkEnd.{WorkEnd}
 use Rattle.worker_run.specs.declared.running.WorkEnd.TheVariants.{Ended, Stopped}
 use Rattle.worker_run.specs.declared.running.Advanced.{Advanced}
 use Rattle.worker_run.specs.declared.running.Advanced.TheVariants.{Further, Whole, Over}
-use Rattle.worker_run.specs.Working.{IfEnded, IfStopped, IsSafeBound}
+use Rattle.worker_run.specs.Working.{IfEnded, IfStopped, IfUnstopped, IsSafeBound}
 
 module _ {B S P : Type 0} where
   -- the parts are sound and keep all entries from a time on
@@ -105,6 +105,12 @@ abbrev pub IfOver : Advanced → (WorkEnd → Type 0) → Type 0
 IfOver Further P = Unit {0}
 IfOver Whole P = Unit {0}
 IfOver (Over end) P = P end
+
+-- where no gate has stopped a worker: it goes on, or all was executed, or a stop goes before this end
+abbrev pub IfOn : Advanced → Type 0 → Type 0
+IfOn Further P = P
+IfOn Whole P = P
+IfOn (Over end) P = IfUnstopped end P
 
 -- the cause of an end
 abbrev pub IsCaused : ℕ → ℕ → WorkEnd → Type 0

@@ -16,9 +16,9 @@ ghost use Rattle.core_traces.specs.Ends.{AreWindows, IsInBudget, EndsBudget};
 ghost use Rattle.step_run.specs.Telling.{MostCounted, IsTallied};
 ghost use Rattle.step_run.specs.Endings.{IfFinished, IfOverBudget, IfMemoryBelow, IfTooMany, IfWrite, IfNotBegun, IsTraced, IsWrittenBelow, IsPartWritten, OnTimelines, HasStoppedAt};
 ghost use Rattle.step_run.specs.Going.{Task, IsGiven, Output};
-ghost use Rattle.worker_pool.specs.Lanes.{HasStopped, HaveNotFallen};
-ghost use Rattle.worker_run.specs.Working.{IfEnded, IfStopped, IfBegun, IsSafeBound};
-ghost use Rattle.worker_run.specs.Going.{IsUnderWay, GoesOn, HasWorked, IsWorkTold, HasAdvanced, IfFurther, IfOver, IsCaused, has_finished, piece_bound, piece_left, outcome};
+ghost use Rattle.worker_pool.specs.Lanes.{HasStopped, HaveNotFallen, HaveStood};
+ghost use Rattle.worker_run.specs.Working.{IfEnded, IfStopped, IfUnstopped, IfBegun, IsSafeBound};
+ghost use Rattle.worker_run.specs.Going.{IsUnderWay, GoesOn, HasWorked, IsWorkTold, HasAdvanced, IfFurther, IfOver, IfOn, IsCaused, has_finished, piece_bound, piece_left, outcome};
 
 use alignment::{AlignFault, Mode};
 use sim_base::{Gate, Memory, Sink};
@@ -77,8 +77,11 @@ struct Piece<B: Behaviour> {
 /// are written. This call may wait.
 ///
 /// What is written when it finishes is the same for any number of lanes, whatever the threads do, and for every mode and
-/// threshold. The room for writing is taken before the run, but for a table of the histories at each piece. The run is
-/// stopped only by a gate whose `stops` rose in this call.
+/// threshold. The room for writing is taken before the run, but for a table of the histories at each piece.
+///
+/// The run is stopped only by a gate whose `stops` rose in this call, and `Stopped` names the first such worker. Where it
+/// finishes, where a budget ends, and where nothing was begun, no gate's `stops` rose. Of `Write` and `MemoryBelow` this is
+/// not said: what was executed is written also after a stop, and where that fails, this is answered in place of the stop.
 pub fn run_by_workers<R: Threads + Wait + Sync, B: Behaviour + Sync, K: Sink, G: Gate + Send>(
     rt: &R,
     alloc: Global,
@@ -117,6 +120,8 @@ pub fn run_by_workers<R: Threads + Wait + Sync, B: Behaviour + Sync, K: Sink, G:
     ensures stopped_in_budget { IfStopped result (λ worker below. OnTimelines (B.reaction plan.behaviour) plan nets.now order.now.mode order.now.threshold order.now.until order.now.budget (λ s. IsInBudget s order.now.budget below)) }
     ensures stopped_safe { IfStopped result (λ worker below. IsSafeBound (B.reaction plan.behaviour) plan nets.now order.now.mode order.now.threshold order.now.until order.now.budget below) }
     ensures stopped_by { IfStopped result (λ worker below. HasStopped G.stops worker lanes.old lanes.new) }
+    ensures stopped_first { IfStopped result (λ worker below. HaveStood G.stops worker lanes.old lanes.new) }
+    ensures unstopped { IfUnstopped result (HaveStood G.stops (length lanes.old) lanes.old lanes.new) }
     ensures gates { HaveNotFallen G.stops lanes.old lanes.new }
     ensures lanes { length lanes.new ≡ length lanes.old }
 {
@@ -176,6 +181,8 @@ fn run_prepared<R: Threads + Wait + Sync, B: Behaviour + Sync, K: Sink, G: Gate 
     ensures cause { IsCaused (K.faults out.old) (K.faults out.new) result }
     ensures never_falls { K.faults out.old ≤ K.faults out.new }
     ensures stopped_by { IfStopped result (λ worker below. HasStopped G.stops worker lanes.old lanes.new) }
+    ensures stopped_first { IfStopped result (λ worker below. HaveStood G.stops worker lanes.old lanes.new) }
+    ensures unstopped { IfUnstopped result (HaveStood G.stops (length lanes.old) lanes.old lanes.new) }
     ensures gates { HaveNotFallen G.stops lanes.old lanes.new }
     ensures lanes { length lanes.new ≡ length lanes.old }
 {
@@ -226,6 +233,8 @@ fn go_on<R: Threads + Wait + Sync, B: Behaviour + Sync, K: Sink, G: Gate + Send>
     ensures cause { IsCaused (K.faults out.old) (K.faults out.new) result }
     ensures never_falls { K.faults out.old ≤ K.faults out.new }
     ensures stopped_by { IfStopped result (λ worker below. HasStopped G.stops worker lanes.old lanes.new) }
+    ensures stopped_first { IfStopped result (λ worker below. HaveStood G.stops worker lanes.old lanes.new) }
+    ensures unstopped { IfUnstopped result (HaveStood G.stops (length lanes.old) lanes.old lanes.new) }
     ensures gates { HaveNotFallen G.stops lanes.old lanes.new }
     ensures lanes { length lanes.new ≡ length lanes.old }
 {
@@ -272,6 +281,8 @@ fn advance<R: Threads + Wait + Sync, B: Behaviour + Sync, K: Sink, G: Gate + Sen
     ensures cause { IfOver result.advanced (λ end. IsCaused (K.faults out.old) (K.faults out.new) end) }
     ensures never_falls { K.faults out.old ≤ K.faults out.new }
     ensures stopped_by { IfOver result.advanced (λ end. IfStopped end (λ worker below. HasStopped G.stops worker lanes.old lanes.new)) }
+    ensures stopped_first { IfOver result.advanced (λ end. IfStopped end (λ worker below. HaveStood G.stops worker lanes.old lanes.new)) }
+    ensures unstopped { IfOn result.advanced (HaveStood G.stops (length lanes.old) lanes.old lanes.new) }
     ensures gates { HaveNotFallen G.stops lanes.old lanes.new }
     ensures lanes { length lanes.new ≡ length lanes.old }
 {

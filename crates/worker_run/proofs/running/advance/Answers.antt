@@ -9,10 +9,10 @@ use Rattle.core_traces.specs.Kept.{histories_of}
 use Rattle.step_run.specs.Telling.{Told}
 use Rattle.step_run.specs.Going.{Output, IsHalted}
 use Rattle.step_run.proofs.Going.{room_on}
-use Rattle.worker_pool.specs.Lanes.{HasStopped}
+use Rattle.worker_pool.specs.Lanes.{HasStopped, HaveStood}
 use Rattle.worker_run.specs.Working.{IfStopped}
-use Rattle.worker_run.specs.Going.{KeepsFrom, GoesOn, HasAdvanced, IsCaused, IfFurther, IfOver, has_finished, piece_bound, piece_left, outcome}
-use Rattle.worker_run.proofs.Going.{AreCarried, IsPiece, of_run, can_merge, keeps_less, same_many, has_advanced, is_part, is_as_before, if_further, has_no_fault, stopped_by, fault_is, left_behind}
+use Rattle.worker_run.specs.Going.{KeepsFrom, GoesOn, HasAdvanced, IsCaused, IfFurther, IfOver, IfOn, has_finished, piece_bound, piece_left, outcome}
+use Rattle.worker_run.proofs.Going.{AreCarried, IsPiece, of_run, can_merge, keeps_less, same_many, has_advanced, is_part, is_as_before, if_further, has_no_fault, stopped_by, is_on, fault_is, left_behind}
 use Rattle.worker_run.proofs.Laws.{laws}
 use Rattle.worker_run.proofs.running.advance.Goals as goal
 
@@ -153,6 +153,20 @@ returns-in-Ok-clause-stopped_by g c =
     let outcome_is : c.outcome_of-advanced.result ≡ outcome end c.below.result = c.outcome_of-advanced.ensures in
     subst (λ a. IfOver a (λ over. IfStopped over (λ worker bound. HasStopped g.G.Gate.stops worker c.args.lanes.now c.run_workers-core.new.lanes))) (sym outcome_is)
     (stopped_by end c.below.result (λ worker. HasStopped g.G.Gate.stops worker c.args.lanes.now c.run_workers-core.new.lanes) c.run_workers-core.ensures.stopped)
+
+pub returns-in-Ok-clause-stopped_first : goal.returns-in-Ok-clause-stopped_first
+returns-in-Ok-clause-stopped_first g c =
+    let end = c.run_workers-core.result.end in
+    let outcome_is : c.outcome_of-advanced.result ≡ outcome end c.below.result = c.outcome_of-advanced.ensures in
+    subst (λ a. IfOver a (λ over. IfStopped over (λ worker bound. HaveStood g.G.Gate.stops worker c.args.lanes.now c.run_workers-core.new.lanes))) (sym outcome_is)
+    (stopped_by end c.below.result (λ worker. HaveStood g.G.Gate.stops worker c.args.lanes.now c.run_workers-core.new.lanes) c.run_workers-core.ensures.first)
+
+pub returns-in-Ok-clause-unstopped : goal.returns-in-Ok-clause-unstopped
+returns-in-Ok-clause-unstopped g c =
+    let end = c.run_workers-core.result.end in
+    let outcome_is : c.outcome_of-advanced.result ≡ outcome end c.below.result = c.outcome_of-advanced.ensures in
+    let Stood = HaveStood g.G.Gate.stops (length c.args.lanes.now) c.args.lanes.now c.run_workers-core.new.lanes in
+    subst (λ a. IfOn a Stood) (sym outcome_is) (is_on end c.below.result Stood c.run_workers-core.ensures.unstopped)
 
 pub returns-in-Ok-clause-gates : goal.returns-in-Ok-clause-gates
 returns-in-Ok-clause-gates g c = c.run_workers-core.ensures.gates

@@ -2,12 +2,13 @@ use Rattle.std.proofs.Common.{◌≡◌, ◌+◌, ◌≤◌, length, subst, refl
 use Rattle.trace_writer.specs.Merging.{HasRoom}
 use Rattle.step_run.specs.Going.{Output}
 use Rattle.step_run.proofs.Beginning.{caused_later as steps_caused_later}
-use Rattle.worker_pool.specs.Lanes.{HasStopped}
+use Rattle.worker_pool.specs.Lanes.{HasStopped, HaveStood}
 use Rattle.worker_run.specs.Working.{IfStopped}
-use Rattle.worker_run.specs.Going.{GoesOn, HasAdvanced, IfFurther, IfOver, IsCaused}
+use Rattle.worker_run.specs.declared.running.WorkEnd.TheVariants.{Ended}
+use Rattle.worker_run.specs.Going.{GoesOn, HasAdvanced, IfFurther, IfOver, IfOn, IsCaused}
 use Rattle.worker_run.proofs.Going.{round_low}
 use Rattle.worker_run.proofs.Beginning.{caused_later}
-use Rattle.worker_run.proofs.Lanes.{none_falls, falls_not, stopped_later}
+use Rattle.worker_run.proofs.Lanes.{none_falls, falls_not, none_move, stood_all, stopped_later, first_later, unstopped_later, if_unstopped}
 use Rattle.worker_run.proofs.Laws.{laws}
 use Rattle.worker_run.proofs.running.go_on.Goals as goal
 
@@ -17,6 +18,7 @@ loop-next-init g c = record {
   room = c.requires.room;
   faults = omega arith;
   gates = none_falls g.G.Gate.stops c.args.lanes.now;
+  stood = none_move g.G.Gate.stops c.args.lanes.now;
   lanes = refl;
   under = λ task given under. under;
 }
@@ -58,6 +60,8 @@ loop-next-preserved g c =
       room = subst (λ a. IfFurther a Room) c.in-Further.is c.advance-next.ensures.room;
       faults = (let before = c.loop-next.invariant.faults in let here = c.advance-next.ensures.never_falls in omega (arith, before, here));
       gates = falls_not g.G.Gate.stops c.args.lanes.now c.loop-next.lanes c.advance-next.new.lanes many c.loop-next.invariant.gates c.advance-next.ensures.gates;
+      stood = stood_all g.G.Gate.stops c.args.lanes.now c.loop-next.lanes c.advance-next.new.lanes many c.loop-next.invariant.stood
+          (subst (λ a. IfOn a (HaveStood g.G.Gate.stops (length c.loop-next.lanes) c.loop-next.lanes c.advance-next.new.lanes)) c.in-Further.is c.advance-next.ensures.unstopped);
       lanes = (let here = c.advance-next.ensures.lanes in omega (arith, here, many));
       under = λ task given start.
           let first : Output = record { held = g.K.Sink.held c.args.out.now; tally = c.args.tally.now } in
@@ -92,6 +96,12 @@ pub returns-in-Whole-clause-gates : goal.returns-in-Whole-clause-gates
 returns-in-Whole-clause-gates g c =
     falls_not g.G.Gate.stops c.args.lanes.now c.loop-next.lanes c.advance-next.new.lanes c.loop-next.invariant.lanes c.loop-next.invariant.gates c.advance-next.ensures.gates
 
+pub returns-in-Whole-clause-unstopped : goal.returns-in-Whole-clause-unstopped
+returns-in-Whole-clause-unstopped g c =
+    if_unstopped (Ended c.write_end.result) (HaveStood g.G.Gate.stops (length c.args.lanes.now) c.args.lanes.now c.advance-next.new.lanes)
+    (stood_all g.G.Gate.stops c.args.lanes.now c.loop-next.lanes c.advance-next.new.lanes c.loop-next.invariant.lanes c.loop-next.invariant.stood
+    (subst (λ a. IfOn a (HaveStood g.G.Gate.stops (length c.loop-next.lanes) c.loop-next.lanes c.advance-next.new.lanes)) c.in-Whole.is c.advance-next.ensures.unstopped))
+
 pub returns-in-Whole-clause-lanes : goal.returns-in-Whole-clause-lanes
 returns-in-Whole-clause-lanes g c = (let here = c.advance-next.ensures.lanes in let before = c.loop-next.invariant.lanes in omega (arith, here, before))
 
@@ -118,6 +128,16 @@ pub returns-in-Over-clause-stopped_by : goal.returns-in-Over-clause-stopped_by
 returns-in-Over-clause-stopped_by g c =
     stopped_later g.G.Gate.stops c.args.lanes.now c.loop-next.lanes c.advance-next.new.lanes c.loop-next.invariant.lanes c.loop-next.invariant.gates c.in-Over.end
     (subst (λ a. IfOver a (λ over. IfStopped over (λ worker below. HasStopped g.G.Gate.stops worker c.loop-next.lanes c.advance-next.new.lanes))) c.in-Over.is c.advance-next.ensures.stopped_by)
+
+pub returns-in-Over-clause-stopped_first : goal.returns-in-Over-clause-stopped_first
+returns-in-Over-clause-stopped_first g c =
+    first_later g.G.Gate.stops c.args.lanes.now c.loop-next.lanes c.advance-next.new.lanes c.loop-next.invariant.lanes c.loop-next.invariant.stood c.in-Over.end
+    (subst (λ a. IfOver a (λ over. IfStopped over (λ worker below. HaveStood g.G.Gate.stops worker c.loop-next.lanes c.advance-next.new.lanes))) c.in-Over.is c.advance-next.ensures.stopped_first)
+
+pub returns-in-Over-clause-unstopped : goal.returns-in-Over-clause-unstopped
+returns-in-Over-clause-unstopped g c =
+    unstopped_later g.G.Gate.stops c.args.lanes.now c.loop-next.lanes c.advance-next.new.lanes c.loop-next.invariant.lanes c.loop-next.invariant.stood c.in-Over.end
+    (subst (λ a. IfOn a (HaveStood g.G.Gate.stops (length c.loop-next.lanes) c.loop-next.lanes c.advance-next.new.lanes)) c.in-Over.is c.advance-next.ensures.unstopped)
 
 pub returns-in-Over-clause-gates : goal.returns-in-Over-clause-gates
 returns-in-Over-clause-gates g c =

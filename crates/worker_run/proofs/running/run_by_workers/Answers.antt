@@ -2,7 +2,7 @@ use Rattle.std.proofs.Common.{◌∙◌, ℕ, ap, arith}
 use Rattle.trace_writer.proofs.Writing.{appends_none}
 use Rattle.step_run.proofs.Beginning.{none_too_many, too_many_lines}
 use Rattle.worker_run.proofs.Beginning.{if_ended_each, if_stopped_each, work_begun, work_caused}
-use Rattle.worker_run.proofs.Lanes.{none_falls}
+use Rattle.worker_run.proofs.Lanes.{none_falls, none_move}
 use Rattle.worker_run.proofs.running.run_by_workers.Goals as goal
 use borrow.Enum.Total.{values_d}
 use Rattle.alignment.specs.contracts.timelines.AlignFault as align_fault
@@ -94,6 +94,12 @@ returns-in-Ok-clause-never_falls g c = c.run_prepared.ensures.never_falls
 pub returns-in-Ok-clause-stopped_by : goal.returns-in-Ok-clause-stopped_by
 returns-in-Ok-clause-stopped_by g c = c.run_prepared.ensures.stopped_by
 
+pub returns-in-Ok-clause-stopped_first : goal.returns-in-Ok-clause-stopped_first
+returns-in-Ok-clause-stopped_first g c = c.run_prepared.ensures.stopped_first
+
+pub returns-in-Ok-clause-unstopped : goal.returns-in-Ok-clause-unstopped
+returns-in-Ok-clause-unstopped g c = c.run_prepared.ensures.unstopped
+
 pub returns-in-Ok-clause-gates : goal.returns-in-Ok-clause-gates
 returns-in-Ok-clause-gates g c = c.run_prepared.ensures.gates
 
@@ -118,6 +124,9 @@ returns-in-Err-TooManyTimelines-clause-nothing g c = appends_none (g.K.Sink.held
 pub returns-in-Err-TooManyTimelines-clause-never_falls : goal.returns-in-Err-TooManyTimelines-clause-never_falls
 returns-in-Err-TooManyTimelines-clause-never_falls g c = omega arith
 
+pub returns-in-Err-TooManyTimelines-clause-unstopped : goal.returns-in-Err-TooManyTimelines-clause-unstopped
+returns-in-Err-TooManyTimelines-clause-unstopped g c = none_move g.G.Gate.stops c.args.lanes.now
+
 pub returns-in-Err-TooManyTimelines-clause-gates : goal.returns-in-Err-TooManyTimelines-clause-gates
 returns-in-Err-TooManyTimelines-clause-gates g c = none_falls g.G.Gate.stops c.args.lanes.now
 
@@ -132,6 +141,9 @@ returns-clause-nothing g c = appends_none (g.K.Sink.held c.args.out.now)
 
 pub returns-clause-never_falls : goal.returns-clause-never_falls
 returns-clause-never_falls g c = omega arith
+
+pub returns-clause-unstopped : goal.returns-clause-unstopped
+returns-clause-unstopped g c = none_move g.G.Gate.stops c.args.lanes.now
 
 pub returns-clause-gates : goal.returns-clause-gates
 returns-clause-gates g c = none_falls g.G.Gate.stops c.args.lanes.now

@@ -4,7 +4,7 @@ use Rattle.trace_writer.proofs.Writing.{appends_none}
 use Rattle.step_run.specs.Going.{Task, Output, IsGiven}
 use Rattle.step_run.proofs.Laws.{none_law}
 use Rattle.worker_run.proofs.Beginning.{first_goes_on, first_under_way, work_told, no_work_told}
-use Rattle.worker_run.proofs.Lanes.{none_falls}
+use Rattle.worker_run.proofs.Lanes.{none_falls, none_move}
 use Rattle.worker_run.proofs.Laws.{first_law}
 use Rattle.worker_run.proofs.running.run_prepared.Goals as goal
 
@@ -75,6 +75,12 @@ returns-in-Ok-clause-never_falls g c = c.go_on.ensures.never_falls
 pub returns-in-Ok-clause-stopped_by : goal.returns-in-Ok-clause-stopped_by
 returns-in-Ok-clause-stopped_by g c = c.go_on.ensures.stopped_by
 
+pub returns-in-Ok-clause-stopped_first : goal.returns-in-Ok-clause-stopped_first
+returns-in-Ok-clause-stopped_first g c = c.go_on.ensures.stopped_first
+
+pub returns-in-Ok-clause-unstopped : goal.returns-in-Ok-clause-unstopped
+returns-in-Ok-clause-unstopped g c = c.go_on.ensures.unstopped
+
 pub returns-in-Ok-clause-gates : goal.returns-in-Ok-clause-gates
 returns-in-Ok-clause-gates g c = c.go_on.ensures.gates
 
@@ -90,6 +96,9 @@ returns-in-Err-clause-told g c = λ nets mode aligned.
 
 pub returns-in-Err-clause-never_falls : goal.returns-in-Err-clause-never_falls
 returns-in-Err-clause-never_falls g c = omega arith
+
+pub returns-in-Err-clause-unstopped : goal.returns-in-Err-clause-unstopped
+returns-in-Err-clause-unstopped g c = none_move g.G.Gate.stops c.args.lanes.now
 
 pub returns-in-Err-clause-gates : goal.returns-in-Err-clause-gates
 returns-in-Err-clause-gates g c = none_falls g.G.Gate.stops c.args.lanes.now
