@@ -1,5 +1,5 @@
 -- A model's run by one event list and its run on timelines, where both come to their end, write the same; and steps and workers have the same outcome.
-use Rattle.std.proofs.Common.{ℕ, ◌≡◌, ◌≤◌, ◌+◌, ◌⊎◌, inl, inr, ◌∙◌, sym, ap, subst, refl, Bool, true, false, List, [], length, Option, Some, Result, Ok, Err, arith}
+use Rattle.std.proofs.Common.{ℕ, ◌≡◌, ◌≤◌, ◌+◌, ◌⊎◌, inl, inr, ◌∙◌, sym, ap, subst, refl, Bool, true, false, List, length, Option, Some, Result, Ok, Err, arith}
 use Rattle.sim_base.specs.Outside.{Files}
 use Rattle.dml_tree.specs.declared.tree.Attribute.{Attribute}
 use Rattle.dml_tree.specs.Attributes.{Attributes}

@@ -1,5 +1,5 @@
 -- The plan of a ring, and the entries of the run of a plan.
-use Rattle.std.proofs.Common.{ℕ, ◌≡◌, ◌<◌, ◌≤◌, ◌+◌, ◌∙◌, sym, ap, subst, refl, List, length, Bool, true, false, Ok, Err, All, arith, cond, nat_lt, decimal}
+use Rattle.std.proofs.Common.{ℕ, ◌≡◌, ◌<◌, ◌≤◌, ◌+◌, ◌∙◌, sym, ap, subst, List, length, Bool, true, false, Ok, Err, All, arith, cond, nat_lt, decimal}
 use Rattle.std.specs.List.{list_any}
 use Rattle.std.proofs.lemmas.List.{length-map, length-replicate}
 use Rattle.std.proofs.lemmas.List.FromFn.{length-map-range_with_len}
@@ -10,7 +10,7 @@ use Rattle.ssf_model.specs.declared.event.Entry.{Entry}
 use Rattle.ssf_model.specs.declared.plan.Plan.{Plan}
 use Rattle.ssf_model.specs.Reaction.{LatestTime, Reaction, Validity, KeepsValid}
 use Rattle.ssf_model.specs.Deliver.{IsModest}
-use Rattle.ssf_model.specs.Drafts.{planned, MostChannels}
+use Rattle.ssf_model.specs.Drafts.{MostChannels}
 use Rattle.ring_model.specs.declared.ring.Ring.{Ring}
 use Rattle.ring_model.specs.declared.ring.RingState.{RingState}
 use Rattle.ring_model.specs.declared.ring.RingPayload.{RingPayload}
