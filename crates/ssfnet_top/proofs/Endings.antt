@@ -8,9 +8,9 @@ use Rattle.ssfnet_top.specs.declared.refusal.Refusal.{Refusal}
 use Rattle.ssfnet_top.specs.declared.refusal.Refusal.TheVariants as refusal
 use Rattle.ssfnet_top.specs.Refusals.{status_of, line_of}
 use Rattle.command_words.specs.Words.{Asked}
-use Rattle.ssfnet_top.specs.Outcome.{Due, done, done_with, refused, refusal_line, AreRead, IsText, IsTreeDue, IsAskedDue, IsTreeMidway, IsAskedMidway}
-use Rattle.ssfnet_top.specs.Answering.{IsMade, AnswersMidway, IsReportTold, due_of, IsHalt, Answers, IsReadFault, IsTold}
-use Rattle.ssfnet_top.specs.Ending.{Outside, HasBudget, HasMiddle, MayEndMidway, IsReport, IsLongReport, Tells, IsToldOf, WantsReport, HasTold, IsReportCut, IsStopped, IsReached, IsFileReached, Ends, IsLineCut, Concerns}
+use Rattle.ssfnet_top.specs.Outcome.{Due, done, done_with, refused, AreRead, IsText, IsTreeDue, IsAskedDue, IsTreeMidway, IsAskedMidway}
+use Rattle.ssfnet_top.specs.Answering.{IsMade, AnswersMidway, IsReportTold, due_of, IsHalt, Answers, IsReadFault, IsAnswered}
+use Rattle.ssfnet_top.specs.Ending.{Outside, HasBudget, HasMiddle, MayEndMidway, IsReport, IsLongReport, Tells, IsToldOf, WantsReport, HasTold, IsTelling, Says, IsReached, IsFileReached, Ends, Concerns}
 use Rattle.std.proofs.lemmas.Grind.{common_steps}
 
 -- nothing is written
@@ -61,12 +61,6 @@ wanted_where (Some asked) text is some = elim (wanted_or_empty asked.report) [
   | inr lacks ↦ absurd (some (told_nothing asked.command asked.report text is lacks))
 ]
 
--- a line that was cut short is of the command
-cut_line : (asked : Option Asked) (r : Refusal) (faults faults' : ℕ) (held held' : Option (List ℕ)) → Concerns asked r
-    → Rose faults faults' → AppendsPrefix (refusal_line r) held held' ⊎ AppendsPrefix (refusal_line refusal.Memory) held held' → IsLineCut asked faults faults' held held'
-cut_line asked r faults faults' held held' c rose (inl part) = (r, c, rose, part)
-cut_line asked r faults faults' held held' c rose (inr part) = (refusal.Memory, tt, rose, part)
-
 -- what ended well was not refused
 pub ok_err : (unit : Unit {0}) (r : Refusal) → ◌≡◌ {A = Result (Unit {0}) Refusal} (Ok unit) (Err r) → ⊥
 ok_err unit r is = cc
@@ -89,35 +83,35 @@ no_list_budget : (asked : Option Asked) (budget : ℕ) → Concerns asked (refus
 no_list_budget None budget has middle = absurd has
 no_list_budget (Some asked) budget has middle = list_budget asked.command budget has middle
 
--- a failed write ends with status 7
-write_seven : (status faults faults' : ℕ) (held held' : Option (List ℕ)) → IsTold refusal.Write status faults faults' held held' → status ≡ 1 → ⊥
-write_seven status faults faults' held held' (inl told) one = let seven : status ≡ 7 = told.0 in omega (arith, one, seven)
-write_seven status faults faults' held held' (inr (inl told)) one = told.1
-write_seven status faults faults' held held' (inr (inr failed)) one = let seven = failed.0 in omega (arith, one, seven)
+-- the status of a refusal is 0 nowhere
+some_status : (r : Refusal) → status_of r ≡ 0 → ⊥
+some_status refusal.Memory is = omega (arith, is)
+some_status refusal.Words is = omega (arith, is)
+some_status (refusal.Read file) is = omega (arith, is)
+some_status (refusal.Dml file f) is = omega (arith, is)
+some_status (refusal.Path file f) is = omega (arith, is)
+some_status (refusal.Shape f) is = omega (arith, is)
+some_status refusal.Write is = omega (arith, is)
+some_status (refusal.Budget budget) is = omega (arith, is)
+some_status (refusal.TimelineBudget timeline budget below) is = omega (arith, is)
+some_status (refusal.MemoryBelow below) is = omega (arith, is)
+some_status (refusal.Stopped worker below) is = omega (arith, is)
 
 -- the line of a refusal is told where it is written on `err`
 module _ (before after : Outside) where
-  memory_stops : (asked : Option Asked) (status : ℕ) → IsTold refusal.Memory status before.err_faults after.err_faults before.err after.err → IsStopped asked status before after
-  memory_stops asked status (inl told) = inl told
-  memory_stops asked status (inr (inl told)) = inl (told.0, told.2)
-  memory_stops asked status (inr (inr failed)) = inr (failed.0, inr (cut_line asked refusal.Memory before.err_faults after.err_faults before.err after.err tt failed.1 failed.2))
+  -- what is told of a refusal
+  abbrev Answered : Refusal → ℕ → Type 0
+  Answered r status = IsAnswered r status before.err_faults after.err_faults before.err after.err
 
-  write_stops : (asked : Option Asked) (status : ℕ) → Rose before.out_faults after.out_faults → Concerns asked refusal.Write
-      → IsTold refusal.Write status before.err_faults after.err_faults before.err after.err → IsStopped asked status before after
-  write_stops asked status rose c (inl told) = inr (told.0, inl (rose, told.1))
-  write_stops asked status rose c (inr (inl told)) = absurd told.1
-  write_stops asked status rose c (inr (inr failed)) = inr (failed.0, inr (cut_line asked refusal.Write before.err_faults after.err_faults before.err after.err c failed.1 failed.2))
+  -- want of memory is told by its own line
+  memory_says : (status : ℕ) → Answered refusal.Memory status → Says refusal.Memory status before after
+  memory_says status (inl told) = told
+  memory_says status (inr other) = other.1
 
-  halt_stops : (asked : Option Asked) (r : Refusal) (status : ℕ) → IsHalt (Err r) before.out_faults after.out_faults → Concerns asked r
-      → IsTold r status before.err_faults after.err_faults before.err after.err → IsStopped asked status before after
-  halt_stops asked r status (inl is) c told =
-      let same : r ≡ refusal.Memory = cc in
-      let P : Refusal → Type 0 = λ s. IsTold s status before.err_faults after.err_faults before.err after.err in
-      memory_stops asked status (subst P same told)
-  halt_stops asked r status (inr (is, rose)) c told =
-      let same : r ≡ refusal.Write = cc in
-      let P : Refusal → Type 0 = λ s. IsTold s status before.err_faults after.err_faults before.err after.err in
-      write_stops asked status rose (subst (λ (s : Refusal). Concerns asked s) same c) (subst P same told)
+  -- the lines that need no memory are told
+  unmade_says : (r : Refusal) (status : ℕ) → (IsMade r → ⊥) → Answered r status → Says r status before after
+  unmade_says r status unmade (inl told) = told
+  unmade_says r status unmade (inr other) = absurd (unmade other.0)
 
   -- nothing is written where there was no memory, or for faults of files and models
   pub record LeavesNothing (asked : Option Asked) (r : Refusal) : Type 0 where
@@ -137,75 +131,45 @@ module _ (before after : Outside) where
   made_leaves asked (refusal.MemoryBelow below) made c leaves middle = absurd made
   made_leaves asked (refusal.Stopped worker below) made c leaves middle = absurd made
 
-  halt_leaves : (asked : Option Asked) (r : Refusal) (status : ℕ) → IsHalt (Err r) before.out_faults after.out_faults → LeavesNothing asked r
-      → IsTold r status before.err_faults after.err_faults before.err after.err → status ≡ 1 → MayEndMidway asked → Appends [] before.out after.out
-  halt_leaves asked r status (inl is) leaves told one middle = leaves.unbegun (let same : r ≡ refusal.Memory = cc in same) middle
-  halt_leaves asked r status (inr (is, rose)) leaves told one middle =
-      let same : r ≡ refusal.Write = cc in
-      let P : Refusal → Type 0 = λ s. IsTold s status before.err_faults after.err_faults before.err after.err in
-      absurd (write_seven status before.err_faults after.err_faults before.err after.err (subst P same told) one)
-
   module _ (files : Files) (asked : Option Asked) where
     whole_ends : (r : Refusal) (status : ℕ) (text : List ℕ) → IsAskedDue files asked (refused r text) → Appends text before.out after.out → Concerns asked r
-        → LeavesNothing asked r → IsTold r status before.err_faults after.err_faults before.err after.err → Ends files asked status before after
-    whole_ends r status text outcome all c leaves (inl told) = inl (refused r text, outcome, inl (record { status_is = told.0; out = all; err = told.1 }))
-    whole_ends r status text outcome all c leaves (inr (inl told)) =
-        inl (refused r text, outcome, inr (inl (record { stopped = inl (told.0, told.2); out = part_all text before.out after.out all; unbegun = λ one. made_leaves asked r told.1 c leaves })))
-    whole_ends r status text outcome all c leaves (inr (inr failed)) =
-        let cut = cut_line asked r before.err_faults after.err_faults before.err after.err c failed.1 failed.2 in
-        inl (refused r text, outcome, inr (inl (record { stopped = inr (failed.0, inr cut); out = part_all text before.out after.out all; unbegun = λ one middle. absurd (let seven = failed.0 in omega (arith, one, seven)) })))
+        → LeavesNothing asked r → Answered r status → Ends files asked status before after
+    whole_ends r status text outcome all c leaves (inl (inl told)) = inl (refused r text, outcome, inl (record { status_is = told.0; out = all; err = told.1 }))
+    whole_ends r status text outcome all c leaves (inl (inr half)) =
+        inl (refused r text, outcome, inr (inl (record { wanted = λ none. absurd (some_status r none); out = all; err = half })))
+    whole_ends r status text outcome all c leaves (inr (made, told)) =
+        inl (refused r text, outcome, inr (inr (inl (record { line = told; out = part_all text before.out after.out all; unbegun = made_leaves asked r made c leaves }))))
+
+    halted_ends : (r : Refusal) (status : ℕ) (due : Due) → IsAskedDue files asked due → IsHalt (Err r) before.out_faults after.out_faults → AppendsPrefix due.out before.out after.out
+        → LeavesNothing asked r → Answered r status → Ends files asked status before after
+    halted_ends r status due outcome (inl is) part leaves told =
+        let same : r ≡ refusal.Memory = cc in
+        inl (due, outcome, inr (inr (inl (record { line = memory_says status (subst (λ (s : Refusal). Answered s status) same told); out = part; unbegun = leaves.unbegun same }))))
+    halted_ends r status due outcome (inr (is, rose)) part leaves told =
+        let same : r ≡ refusal.Write = cc in
+        inl (due, outcome, inr (inr (inr (record { rose = rose; line = unmade_says refusal.Write status (λ made. made) (subst (λ (s : Refusal). Answered s status) same told); out = part }))))
 
     unread_ends : (name : List ℕ) (status : ℕ) → IsFileReached files asked name → Rose before.read_faults after.read_faults → Appends [] before.out after.out
-        → Concerns asked (refusal.Read name)
-        → IsTold (refusal.Read name) status before.err_faults after.err_faults before.err after.err → Ends files asked status before after
-    unread_ends name status file rose none c (inl told) =
-        inr (inl (record { cause = inr (record { status_is = told.0; rose = rose; name = name; file = file; err = told.1 }); out = none }))
-    unread_ends name status file rose none c (inr (inl told)) = inr (inl (record { cause = inl (inl (told.0, told.2)); out = none }))
-    unread_ends name status file rose none c (inr (inr failed)) =
-        let cut = cut_line asked (refusal.Read name) before.err_faults after.err_faults before.err after.err c failed.1 failed.2 in
-        inr (inl (record { cause = inl (inr (failed.0, inr cut)); out = none }))
-
-    -- it was ended in the middle of a run
-    short_ends : (below status : ℕ) (text : List ℕ) → IsAskedMidway files asked below text → Appends text before.out after.out → Concerns asked (refusal.MemoryBelow below)
-        → IsTold (refusal.MemoryBelow below) status before.err_faults after.err_faults before.err after.err → Ends files asked status before after
-    short_ends below status text midway all c (inl told) = inr (inr (record { below = below; text = text; midway = midway; ended = inl (told.0, all, told.1) }))
-    short_ends below status text midway all c (inr (inl told)) = absurd told.1
-    short_ends below status text midway all c (inr (inr failed)) =
-        let cut = cut_line asked (refusal.MemoryBelow below) before.err_faults after.err_faults before.err after.err c failed.1 failed.2 in
-        inr (inr (record { below = below; text = text; midway = midway; ended = inr (inr (failed.0, part_all text before.out after.out all, inr cut)) }))
-
-    -- a worker was stopped
-    stop_ends : (worker below status : ℕ) (text : List ℕ) → IsAskedMidway files asked below text → Appends text before.out after.out → Concerns asked (refusal.Stopped worker below)
-        → IsTold (refusal.Stopped worker below) status before.err_faults after.err_faults before.err after.err → Ends files asked status before after
-    stop_ends worker below status text midway all c (inl told) = inr (inr (record { below = below; text = text; midway = midway; ended = inr (inl (worker, c, told.0, all, told.1)) }))
-    stop_ends worker below status text midway all c (inr (inl told)) = absurd told.1
-    stop_ends worker below status text midway all c (inr (inr failed)) =
-        let cut = cut_line asked (refusal.Stopped worker below) before.err_faults after.err_faults before.err after.err c failed.1 failed.2 in
-        inr (inr (record { below = below; text = text; midway = midway; ended = inr (inr (failed.0, part_all text before.out after.out all, inr cut)) }))
-
-    failed_ends : (below status : ℕ) (text : List ℕ) → IsAskedMidway files asked below text → Rose before.out_faults after.out_faults → AppendsPrefix text before.out after.out
-        → Concerns asked refusal.Write
-        → IsTold refusal.Write status before.err_faults after.err_faults before.err after.err → Ends files asked status before after
-    failed_ends below status text midway rose part c (inl told) = inr (inr (record { below = below; text = text; midway = midway; ended = inr (inr (told.0, part, inl (rose, told.1))) }))
-    failed_ends below status text midway rose part c (inr (inl told)) = absurd told.1
-    failed_ends below status text midway rose part c (inr (inr failed)) =
-        let cut = cut_line asked refusal.Write before.err_faults after.err_faults before.err after.err c failed.1 failed.2 in
-        inr (inr (record { below = below; text = text; midway = midway; ended = inr (inr (failed.0, part, inr cut)) }))
+        → Answered (refusal.Read name) status → Ends files asked status before after
+    unread_ends name status file rose none (inl told) =
+        inr (inl (record { cause = inr (record { rose = rose; name = name; file = file; line = told }); out = none }))
+    unread_ends name status file rose none (inr other) = inr (inl (record { cause = inl other.1; out = none }))
 
     midway_ends : (r : Refusal) (status : ℕ) → AnswersMidway (IsAskedMidway files asked) (Err r) before.out_faults after.out_faults before.out after.out → Concerns asked r
-        → IsTold r status before.err_faults after.err_faults before.err after.err → Ends files asked status before after
+        → Answered r status → Ends files asked status before after
     midway_ends r status (below, text, midway, inl (inl is, all)) c told =
         let same : r ≡ refusal.MemoryBelow below = cc in
-        let P : Refusal → Type 0 = λ s. IsTold s status before.err_faults after.err_faults before.err after.err in
-        short_ends below status text midway all (subst (λ (s : Refusal). Concerns asked s) same c) (subst P same told)
+        let line : Says (refusal.MemoryBelow below) status before after = unmade_says (refusal.MemoryBelow below) status (λ made. made) (subst (λ (s : Refusal). Answered s status) same told) in
+        inr (inr (record { below = below; text = text; midway = midway; ended = inl (record { line = line; out = all }) }))
     midway_ends r status (below, text, midway, inl (inr (worker, is), all)) c told =
         let same : r ≡ refusal.Stopped worker below = cc in
-        let P : Refusal → Type 0 = λ s. IsTold s status before.err_faults after.err_faults before.err after.err in
-        stop_ends worker below status text midway all (subst (λ (s : Refusal). Concerns asked s) same c) (subst P same told)
+        let line : Says (refusal.Stopped worker below) status before after = unmade_says (refusal.Stopped worker below) status (λ made. made) (subst (λ (s : Refusal). Answered s status) same told) in
+        let of : Concerns asked (refusal.Stopped worker below) = subst (λ (s : Refusal). Concerns asked s) same c in
+        inr (inr (record { below = below; text = text; midway = midway; ended = inr (inl (record { worker = worker; asked_for = of; line = line; out = all })) }))
     midway_ends r status (below, text, midway, inr (is, rose, part)) c told =
         let same : r ≡ refusal.Write = cc in
-        let P : Refusal → Type 0 = λ s. IsTold s status before.err_faults after.err_faults before.err after.err in
-        failed_ends below status text midway rose part (subst (λ (s : Refusal). Concerns asked s) same c) (subst P same told)
+        let line : Says refusal.Write status before after = unmade_says refusal.Write status (λ made. made) (subst (λ (s : Refusal). Answered s status) same told) in
+        inr (inr (record { below = below; text = text; midway = midway; ended = inr (inr (record { rose = rose; line = line; out = part })) }))
 
     -- it was refused, and the line told
     pub ends_refused : (report : List ℕ) (r : Refusal) (status : ℕ)
@@ -213,19 +177,17 @@ module _ (before after : Outside) where
         ⊎ (IsReadFault files asked (Err r) before.read_faults after.read_faults before.out after.out
         ⊎ AnswersMidway (IsAskedMidway files asked) (Err r) before.out_faults after.out_faults before.out after.out)
         → Concerns asked r → LeavesNothing asked r
-        → IsTold r status before.err_faults after.err_faults before.err after.err
+        → IsAnswered r status before.err_faults after.err_faults before.err after.err
         → Ends files asked status before after
     ends_refused report r status (inl (inl all)) c leaves told = whole_ends r status all.0 all.1 all.2 c leaves told
-    ends_refused report r status (inl (inr (inl (due, outcome, halt, part)))) c leaves told =
-        inl (due, outcome, inr (inl (record { stopped = halt_stops asked r status halt c told; out = part; unbegun = halt_leaves asked r status halt leaves told })))
+    ends_refused report r status (inl (inr (inl (due, outcome, halt, part)))) c leaves told = halted_ends r status due outcome halt part leaves told
     ends_refused report r status (inl (inr (inr (is, none)))) c leaves told =
-        let halt : IsHalt (Err r) before.out_faults after.out_faults = inl is in
-        inr (inl (record { cause = inl (halt_stops asked r status halt c told); out = none }))
+        let same : r ≡ refusal.Memory = cc in
+        inr (inl (record { cause = inl (memory_says status (subst (λ (s : Refusal). Answered s status) same told)); out = none }))
     ends_refused report r status (inr (inr short)) c leaves told = midway_ends r status short c told
     ends_refused report r status (inr (inl (name, file, is, rose, none))) c leaves told =
         let same : r ≡ refusal.Read name = cc in
-        let P : Refusal → Type 0 = λ s. IsTold s status before.err_faults after.err_faults before.err after.err in
-        unread_ends name status file rose none (subst (λ (s : Refusal). Concerns asked s) same c) (subst P same told)
+        unread_ends name status file rose none (subst (λ (s : Refusal). Answered s status) same told)
 
     -- it ended well, and the report was told, or cut short
     done_ends : (report text : List ℕ) (status : ℕ) → IsAskedDue files asked (done_with report text) → Appends text before.out after.out → IsToldOf asked report
@@ -235,7 +197,7 @@ module _ (before after : Outside) where
         inl (
           done_with report text,
           outcome,
-          inr (inr (record { wanted = wanted_where asked report is cut.1; well = refl; status_is = cut.0; rose = cut.2; out = all; err = cut.3 })),
+          inr (inl (record { wanted = λ well. wanted_where asked report is cut.0; out = all; err = cut.1 })),
         )
 
     pub ends_well : (report : List ℕ) (unit : Unit {0}) (status : ℕ)
@@ -253,33 +215,47 @@ module _ (before after : Outside) where
     ends_well report unit status (inr (inr (below, text, midway, inl (inr (worker, stop), all)))) is told = absurd (ok_err unit (refusal.Stopped worker below) stop)
     ends_well report unit status (inr (inr (below, text, midway, inr (failed, rose, part)))) is told = absurd (ok_err unit refusal.Write failed)
 
+-- a refusal with status 7 is that of a failed write on `out`
+write_is : (r : Refusal) → status_of r ≡ 7 → r ≡ refusal.Write
+write_is refusal.Memory is = absurd (omega (arith, is))
+write_is refusal.Words is = absurd (omega (arith, is))
+write_is (refusal.Read file) is = absurd (omega (arith, is))
+write_is (refusal.Dml file f) is = absurd (omega (arith, is))
+write_is (refusal.Path file f) is = absurd (omega (arith, is))
+write_is (refusal.Shape f) is = absurd (omega (arith, is))
+write_is refusal.Write is = refl
+write_is (refusal.Budget budget) is = absurd (omega (arith, is))
+write_is (refusal.TimelineBudget timeline budget below) is = absurd (omega (arith, is))
+write_is (refusal.MemoryBelow below) is = absurd (omega (arith, is))
+write_is (refusal.Stopped worker below) is = absurd (omega (arith, is))
+
 -- What is told whatever the files hold.
 
--- with status 0, with 7 where `err` failed, and else with the line of the refusal
-abbrev pub IsTelling : Option Asked → ℕ → ℕ → ℕ → Option (List ℕ) → Option (List ℕ) → Type 0
-IsTelling asked status faults faults' held held' =
-    (status ≡ 0) ⊎ (((status ≡ 7) × (IsLineCut asked faults faults' held held' ⊎ IsReportCut asked faults faults' held held'))
-    ⊎ ((s : Refusal) × (status_of s ≡ status) × Concerns asked s × Appends (refusal_line s) held held'))
-
 module _ (r : Refusal) (status faults faults' : ℕ) (held held' : Option (List ℕ)) where
-  pub told_line : (asked : Option Asked) → IsTold r status faults faults' held held' → Concerns asked r
+  pub told_line : (asked : Option Asked) → IsAnswered r status faults faults' held held' → Concerns asked r
       → IsTelling asked status faults faults' held held'
-  told_line asked (inl told) c = inr (inr (r, sym told.0, c, told.1))
-  told_line asked (inr (inl told)) c = inr (inr (refusal.Memory, sym told.0, tt, told.2))
-  told_line asked (inr (inr failed)) c = inr (inl (failed.0, inl (cut_line asked r faults faults' held held' c failed.1 failed.2)))
+  told_line asked (inl told) c = inr (inr (r, c, told))
+  told_line asked (inr other) c = inr (inr (refusal.Memory, tt, other.1))
+
+  -- with status 7 a sink failed
+  pub told_failed : (out out' : ℕ) → IsAnswered r status faults faults' held held' → (r ≡ refusal.Write → Rose out out') → status ≡ 7 → Rose out out' ⊎ Rose faults faults'
+  told_failed out out' (inl (inl told)) rose seven = inl (rose (write_is r (sym told.0 ∙ seven)))
+  told_failed out out' (inl (inr half)) rose seven = inr half.1
+  told_failed out out' (inr (made, inl told)) rose seven = absurd (let one : status ≡ 1 = told.0 in omega (arith, one, seven))
+  told_failed out out' (inr (made, inr half)) rose seven = inr half.1
 
 module _ (asked : Option Asked) (report : List ℕ) (status faults faults' : ℕ) (held held' : Option (List ℕ)) (is : IsToldOf asked report) where
   pub report_line : IsReportTold report status faults faults' held held' → IsTelling asked status faults faults' held held'
   report_line (inl told) = inl told.0
-  report_line (inr cut) = inr (inl (cut.0, inr (report, is, wanted_where asked report is cut.1, cut.2, cut.3)))
+  report_line (inr cut) = inr (inl (report, is, wanted_where asked report is cut.0, cut.1))
 
   pub report_quiet : IsReportTold report status faults faults' held held' → status ≡ 0 → ¬ WantsReport asked → Appends [] held held'
   report_quiet (inl told) well lacks = subst (λ (text : List ℕ). Appends text held held') (unwanted asked report is lacks) told.1
-  report_quiet (inr cut) well lacks = absurd (let seven = cut.0 in omega arith)
+  report_quiet (inr cut) well lacks = absurd (let seven = cut.1.0 in omega arith)
 
   pub report_told : IsReportTold report status faults faults' held held' → status ≡ 0 → HasTold asked held held'
   report_told (inl told) well = (report, is, told.1)
-  report_told (inr cut) well = absurd (let seven = cut.0 in omega arith)
+  report_told (inr cut) well = absurd (let seven = cut.1.0 in omega arith)
 
 -- a part of what is due was written
 pub sent_part : (IsDue : Due → Type 0) (due : Due) (report : List ℕ) (r : Refusal) (faults faults' : ℕ) (held held' : Option (List ℕ)) → IsDue due
@@ -373,21 +349,21 @@ module _ (o : Option Asked) (asked : Asked) (names : List (List ℕ)) (asks : o 
 
 pub said_memory : (r : Refusal) (status faults faults' : ℕ) (held held' : Option (List ℕ)) → IsMade r
     → ((status ≡ 1) × Appends (codes "memory" ++ 10 ∷ []) held held') ⊎ ((status ≡ 7) × Rose faults faults' × AppendsPrefix (codes "memory" ++ 10 ∷ []) held held')
-    → IsTold r status faults faults' held held'
+    → IsAnswered r status faults faults' held held'
 unfolding line_of
-said_memory r status faults faults' held held' differs (inl said) = inr (inl (said.0, differs, said.1))
-said_memory r status faults faults' held held' differs (inr failed) = inr (inr (failed.0, failed.1, inr failed.2))
+said_memory r status faults faults' held held' differs (inl said) = inr (differs, inl said)
+said_memory r status faults faults' held held' differs (inr failed) = inr (differs, inr failed)
 
 pub said_write : (r : Refusal) (status faults faults' : ℕ) (held held' : Option (List ℕ)) → r ≡ refusal.Write
     → ((status ≡ 7) × Appends (codes "write" ++ 10 ∷ []) held held') ⊎ ((status ≡ 7) × Rose faults faults' × AppendsPrefix (codes "write" ++ 10 ∷ []) held held')
-    → IsTold r status faults faults' held held'
+    → IsAnswered r status faults faults' held held'
 unfolding line_of
-said_write r status faults faults' held held' is said = subst (λ (s : Refusal). IsTold s status faults faults' held held') (sym is) (said_it said)
+said_write r status faults faults' held held' is said = subst (λ (s : Refusal). IsAnswered s status faults faults' held held') (sym is) (said_it said)
   where
     said_it : ((status ≡ 7) × Appends (codes "write" ++ 10 ∷ []) held held') ⊎ ((status ≡ 7) × Rose faults faults' × AppendsPrefix (codes "write" ++ 10 ∷ []) held held')
-        → IsTold refusal.Write status faults faults' held held'
-    said_it (inl said) = inl said
-    said_it (inr failed) = inr (inr (failed.0, failed.1, inl failed.2))
+        → IsAnswered refusal.Write status faults faults' held held'
+    said_it (inl said) = inl (inl said)
+    said_it (inr failed) = inl (inr failed)
 
 -- How the call ends, where the files are told.
 
@@ -397,7 +373,7 @@ pub told_refused : (told : Option Files) (asked : Option Asked) (before after : 
     ⊎ AnswersMidway (IsAskedMidway files asked) (Err r) before.out_faults after.out_faults before.out after.out))
     → Concerns asked r
     → (r ≡ refusal.Memory → MayEndMidway asked → Appends [] before.out after.out) → (2 ≤ status_of r → status_of r ≤ 6 → Appends [] before.out after.out)
-    → IsTold r status before.err_faults after.err_faults before.err after.err
+    → IsAnswered r status before.err_faults after.err_faults before.err after.err
     → IfSome told (λ files. Ends files asked status before after)
 told_refused None asked before after report r status answers c unbegun nothing told = tt
 told_refused (Some files) asked before after report r status answers c unbegun nothing told =

@@ -7,7 +7,7 @@ use Rattle.ssfnet_top.specs.declared.refusal.Refusal.{Refusal}
 use Rattle.ssfnet_top.specs.declared.refusal.Refusal.TheVariants as refusal
 use Rattle.ssfnet_top.specs.Refusals.{status_of, line_of}
 use Rattle.ssfnet_top.specs.Outcome.{refusal_line, windows_line}
-use Rattle.ssfnet_top.specs.Answering.{IsTold, IsReportTold}
+use Rattle.ssfnet_top.specs.Answering.{IsAnswered, IsReportTold}
 
 -- a part of the second text behind the first
 pub part_then : (a b : List ℕ) (old mid new : Option (List ℕ)) → Appends a old mid → AppendsPrefix b mid new → AppendsPrefix (a ++ b) old new
@@ -16,15 +16,15 @@ part_then a b old mid new all part = subst (λ (t : List ℕ). AppendsPrefix (a 
 -- a line that was written, or cut short
 pub told_by : (r : Refusal) (written : Result (Unit {0}) Failed) (status result faults faults' : ℕ) (held held' : Option (List ℕ)) → status ≡ status_of r
     → OnOk written (result ≡ status) → OnErr written (result ≡ 7)
-    → OnOk written (Appends (refusal_line r) held held') → OnErr written (AppendsPrefix (refusal_line r) held held') → OnErr written (Rose faults faults') → IsTold r result faults faults' held held'
-told_by r (Ok unit) status result faults faults' held held' is well failed all part rose = inl (well ∙ is, all)
-told_by r (Err fault) status result faults faults' held held' is well failed all part rose = inr (inr (failed, rose, inl part))
+    → OnOk written (Appends (refusal_line r) held held') → OnErr written (AppendsPrefix (refusal_line r) held held') → OnErr written (Rose faults faults') → IsAnswered r result faults faults' held held'
+told_by r (Ok unit) status result faults faults' held held' is well failed all part rose = inl (inl (well ∙ is, all))
+told_by r (Err fault) status result faults faults' held held' is well failed all part rose = inl (inr (failed, rose, part))
 
 pub reported_by : (text : List ℕ) (written : Result (Unit {0}) Failed) (result faults faults' : ℕ) (held held' : Option (List ℕ)) → ¬ (text ≡ [])
     → OnOk written (result ≡ 0) → OnErr written (result ≡ 7)
     → OnOk written (Appends text held held') → OnErr written (AppendsPrefix text held held') → OnErr written (Rose faults faults') → IsReportTold text result faults faults' held held'
 reported_by text (Ok unit) result faults faults' held held' some well failed all part rose = inl (well, all)
-reported_by text (Err fault) result faults faults' held held' some well failed all part rose = inr (failed, some, rose, part)
+reported_by text (Err fault) result faults faults' held held' some well failed all part rose = inr (some, (failed, rose, part))
 
 -- what is so where a write was done, and where it failed
 pub if_done : {T E : Type 0} (r : Result T E) (P Q : Type 0) → (P → Q) → OnOk r P → OnOk r Q

@@ -19,7 +19,7 @@ use Rattle.std.proofs.lemmas.Grind.{common_steps}
 use Rattle.ssfnet_top.specs.Refusals.{status_of}
 use Rattle.ssfnet_top.specs.Outcome.{refusal_line}
 use Rattle.ssfnet_top.specs.Ending.{Concerns}
-use Rattle.ssfnet_top.specs.Answering.{IsOfSteps, IsStop, IsTold}
+use Rattle.ssfnet_top.specs.Answering.{IsOfSteps, IsStop, IsAnswered}
 
 pub if_ended : (w : WorkEnd) (e : StepEnd) (P : StepEnd → Type 0) → w ≡ work.Ended e → IfEnded w P → P e
 if_ended w e P is h = subst (λ (x : WorkEnd). IfEnded x P) is h
@@ -129,11 +129,12 @@ stop_is (refusal.TimelineBudget timeline budget below) is = absurd (omega (arith
 stop_is (refusal.MemoryBelow below) is = absurd (omega (arith, is))
 stop_is (refusal.Stopped worker below) is = (worker, below, refl)
 
-pub told_stop : (r : Refusal) (asked : Option Asked) (status faults faults' : ℕ) (held held' : Option (List ℕ)) (P : ℕ → Type 0) → IsTold r status faults faults' held held' → Concerns asked r
+pub told_stop : (r : Refusal) (asked : Option Asked) (status faults faults' : ℕ) (held held' : Option (List ℕ)) (P : ℕ → Type 0) → IsAnswered r status faults faults' held held' → Concerns asked r
     → ((worker below : ℕ) → r ≡ refusal.Stopped worker below → P worker) → status ≡ 9
     → (worker : ℕ) × (below : ℕ) × P worker × Concerns asked (refusal.Stopped worker below) × Appends (refusal_line (refusal.Stopped worker below)) held held'
-told_stop r asked status faults faults' held held' P (inl told) c stops nine =
+told_stop r asked status faults faults' held held' P (inl (inl told)) c stops nine =
     let stop = stop_is r (sym told.0 ∙ nine) in
     (stop.0, stop.1, stops stop.0 stop.1 stop.2, subst (λ (s : Refusal). Concerns asked s) stop.2 c, subst (λ (s : Refusal). Appends (refusal_line s) held held') stop.2 told.1)
-told_stop r asked status faults faults' held held' P (inr (inl told)) c stops nine = absurd (let one = told.0 in omega (arith, one, nine))
-told_stop r asked status faults faults' held held' P (inr (inr failed)) c stops nine = absurd (let seven = failed.0 in omega (arith, seven, nine))
+told_stop r asked status faults faults' held held' P (inl (inr half)) c stops nine = absurd (let seven = half.0 in omega (arith, seven, nine))
+told_stop r asked status faults faults' held held' P (inr (made, inl told)) c stops nine = absurd (let one : status ≡ 1 = told.0 in omega (arith, one, nine))
+told_stop r asked status faults faults' held held' P (inr (made, inr half)) c stops nine = absurd (let seven = half.0 in omega (arith, seven, nine))

@@ -14,11 +14,10 @@ use Rattle.ssfnet_top.specs.declared.running.Running.{Running}
 use Rattle.ssfnet_top.specs.declared.running.Told.{Told}
 use Rattle.ssfnet_top.specs.declared.running.Way.{Way}
 use Rattle.ssfnet_top.specs.declared.running.Way.TheVariants as way
-use Rattle.ssfnet_top.specs.Refusals.{status_of}
 use Rattle.worker_run.specs.declared.running.WorkOrder.{WorkOrder}
 use Rattle.command_words.specs.Words.{Asked}
-use Rattle.ssfnet_top.specs.Outcome.{Due, done_with, refused, refusal_line, windows_line}
-use Rattle.ssfnet_top.specs.Ending.{HasBudget, HasTimelineBudget, HasMiddle, HasWorker, Resolves, HasModel, IsFaultOf, IsReport, IsLongReport, IsFileReached}
+use Rattle.ssfnet_top.specs.Outcome.{Due, done_with, refused, windows_line}
+use Rattle.ssfnet_top.specs.Ending.{HasBudget, HasTimelineBudget, HasMiddle, HasWorker, Resolves, HasModel, IsFaultOf, IsReport, IsLongReport, IsFileReached, IsTold, IsHalfTold}
 
 -- Within a call, where files of these names are read: what a refusal may be.
 abbrev pub IsOfFiles : List (List ℕ) → Refusal → Type 0
@@ -193,15 +192,12 @@ IsMade (refusal.MemoryBelow below) = ⊥
 IsMade (refusal.Stopped worker below) = ⊥
 IsMade _ = Unit {0}
 
--- the line of a refusal was written on `err`; or there was no memory for it; or `err` failed, and one of these lines
--- was cut short
-abbrev pub IsTold : Refusal → ℕ → ℕ → ℕ → Option (List ℕ) → Option (List ℕ) → Type 0
-IsTold r status faults faults' held held' =
-    ((status ≡ status_of r) × Appends (refusal_line r) held held')
-    ⊎ (((status ≡ 1) × IsMade r × Appends (refusal_line refusal.Memory) held held')
-    ⊎ ((status ≡ 7) × Rose faults faults' × (AppendsPrefix (refusal_line r) held held' ⊎ AppendsPrefix (refusal_line refusal.Memory) held held')))
+-- the line of a refusal was told, or cut short; or so was that of want of memory, where there may have been none for the line
+abbrev pub IsAnswered : Refusal → ℕ → ℕ → ℕ → Option (List ℕ) → Option (List ℕ) → Type 0
+IsAnswered r status faults faults' held held' =
+    IsTold r status faults faults' held held' ⊎ (IsMade r × IsTold refusal.Memory status faults faults' held held')
 
 -- the report made was written on `err`, or there is none; or `err` failed, and it was cut short
 abbrev pub IsReportTold : List ℕ → ℕ → ℕ → ℕ → Option (List ℕ) → Option (List ℕ) → Type 0
 IsReportTold report status faults faults' held held' =
-    ((status ≡ 0) × Appends report held held') ⊎ ((status ≡ 7) × ¬ (report ≡ []) × Rose faults faults' × AppendsPrefix report held held')
+    ((status ≡ 0) × Appends report held held') ⊎ (¬ (report ≡ []) × IsHalfTold report status faults faults' held held')

@@ -15,6 +15,7 @@ use Rattle.command_words.specs.declared.command.Command.TheVariants as commands
 use Rattle.ssfnet_top.specs.declared.refusal.Refusal.{Refusal}
 use Rattle.ssfnet_top.specs.declared.refusal.Refusal.TheVariants as refusal
 use Rattle.ssfnet_top.specs.FilePlaces.{IsPlaced}
+use Rattle.ssfnet_top.specs.Refusals.{status_of}
 use Rattle.command_words.specs.Words.{Asked}
 use Rattle.ssfnet_top.specs.Outcome.{Due, refusal_line, windows_line, file_of_fault, IsFileRead, IsAskedDue, IsAskedMidway}
 
@@ -129,10 +130,32 @@ WantsReport asked = IsSomeAnd asked (λ a. a.report ≡ true)
 abbrev pub HasTold : Option Asked → Option (List ℕ) → Option (List ℕ) → Type 0
 HasTold asked held held' = (text : List ℕ) × IsToldOf asked text × Appends text held held'
 
--- a report that is wanted was cut short, for `err` failed
-abbrev pub IsReportCut : Option Asked → ℕ → ℕ → Option (List ℕ) → Option (List ℕ) → Type 0
-IsReportCut asked faults faults' held held' =
-    (text : List ℕ) × IsToldOf asked text × WantsReport asked × Rose faults faults' × AppendsPrefix text held held'
+-- What is told on `err`.
+
+-- the whole line of a refusal was told, and the status is that of the refusal
+abbrev pub IsLineTold : Refusal → ℕ → Option (List ℕ) → Option (List ℕ) → Type 0
+IsLineTold r status held held' = (status ≡ status_of r) × Appends (refusal_line r) held held'
+
+-- a text was cut short, for `err` failed: then the status is 7
+abbrev pub IsHalfTold : List ℕ → ℕ → ℕ → ℕ → Option (List ℕ) → Option (List ℕ) → Type 0
+IsHalfTold text status faults faults' held held' = (status ≡ 7) × Rose faults faults' × AppendsPrefix text held held'
+
+-- the line of a refusal was told, or cut short
+abbrev pub IsTold : Refusal → ℕ → ℕ → ℕ → Option (List ℕ) → Option (List ℕ) → Type 0
+IsTold r status faults faults' held held' = IsLineTold r status held held' ⊎ IsHalfTold (refusal_line r) status faults faults' held held'
+
+-- a report that is wanted was cut short
+abbrev pub IsReportCut : Option Asked → ℕ → ℕ → ℕ → Option (List ℕ) → Option (List ℕ) → Type 0
+IsReportCut asked status faults faults' held held' =
+    (text : List ℕ) × IsToldOf asked text × WantsReport asked × IsHalfTold text status faults faults' held held'
+
+-- Whatever the files are: all was done; or a report was cut short; or the line of a refusal of the command was told, or
+-- cut short.
+abbrev pub IsTelling : Option Asked → ℕ → ℕ → ℕ → Option (List ℕ) → Option (List ℕ) → Type 0
+IsTelling asked status faults faults' held held' =
+    (status ≡ 0)
+    ⊎ (IsReportCut asked status faults faults' held held'
+    ⊎ ((r : Refusal) × Concerns asked r × IsTold r status faults faults' held held'))
 
 -- What is seen of the outside: how often the library, `out` and `err` failed, and the bytes that `out` and `err` hold
 -- where they are told.
@@ -149,40 +172,35 @@ pub record IsMet (due : Due) (status : ℕ) (before after : Outside) : Type 0 wh
   pub out : Appends due.out before.out after.out
   pub err : Appends due.err before.err after.err
 
--- the line of a refusal was cut short, for `err` failed
-abbrev pub IsLineCut : Option Asked → ℕ → ℕ → Option (List ℕ) → Option (List ℕ) → Type 0
-IsLineCut asked faults faults' held held' = (r : Refusal) × Concerns asked r × Rose faults faults' × AppendsPrefix (refusal_line r) held held'
+-- the line of this refusal was told, or cut short
+abbrev pub Says : Refusal → ℕ → Outside → Outside → Type 0
+Says r status before after = IsTold r status before.err_faults after.err_faults before.err after.err
 
--- `out` failed, and the line of that stands on `err`; or `err` failed
-abbrev pub IsFailed : Option Asked → Outside → Outside → Type 0
-IsFailed asked before after =
-    (Rose before.out_faults after.out_faults × Appends (refusal_line refusal.Write) before.err after.err)
-    ⊎ IsLineCut asked before.err_faults after.err_faults before.err after.err
-
--- there was no memory, or a sink failed
-abbrev pub IsStopped : Option Asked → ℕ → Outside → Outside → Type 0
-IsStopped asked status before after =
-    ((status ≡ 1) × Appends (refusal_line refusal.Memory) before.err after.err) ⊎ ((status ≡ 7) × IsFailed asked before after)
-
--- some of what is due was written, from its beginning. Where it might have been ended in the middle of a run, and that is
--- not told, there was no memory before anything was written
-pub record IsCutShort (asked : Option Asked) (due : Due) (status : ℕ) (before after : Outside) : Type 0 where
-  pub stopped : IsStopped asked status before after
+-- there was no memory, and some of what is due was written, from its beginning. Where it might have been ended in the middle
+-- of a run, nothing was written
+pub record IsWanting (asked : Option Asked) (due : Due) (status : ℕ) (before after : Outside) : Type 0 where
+  pub line : Says refusal.Memory status before after
   pub out : AppendsPrefix due.out before.out after.out
-  pub unbegun : status ≡ 1 → MayEndMidway asked → Appends [] before.out after.out
+  pub unbegun : MayEndMidway asked → Appends [] before.out after.out
 
--- all that is due on `out` was written, and of the report that is wanted a part, from its beginning
-pub record IsUnreported (asked : Option Asked) (due : Due) (status : ℕ) (before after : Outside) : Type 0 where
-  pub wanted : WantsReport asked
-  pub well : due.status ≡ 0
-  pub status_is : status ≡ 7
-  pub rose : Rose before.err_faults after.err_faults
+-- `out` failed, and some of what is due was written, from its beginning
+pub record IsUnwritten (due : Due) (status : ℕ) (before after : Outside) : Type 0 where
+  pub rose : Rose before.out_faults after.out_faults
+  pub line : Says refusal.Write status before after
+  pub out : AppendsPrefix due.out before.out after.out
+
+-- all that is due on `out` was written, and of what is due on `err` a part, from its beginning, for `err` failed: of the
+-- line of a refusal, or of a report that is wanted
+pub record IsHalfMet (asked : Option Asked) (due : Due) (status : ℕ) (before after : Outside) : Type 0 where
+  pub wanted : due.status ≡ 0 → WantsReport asked
   pub out : Appends due.out before.out after.out
-  pub err : AppendsPrefix due.err before.err after.err
+  pub err : IsHalfTold due.err status before.err_faults after.err_faults before.err after.err
 
--- what is due was written; or some of it; or all of it but for the report
+-- what is due was written; or all of it but for the end of what is due on `err`; or some of it
 abbrev pub IsDone : Option Asked → Due → ℕ → Outside → Outside → Type 0
-IsDone asked due status before after = IsMet due status before after ⊎ (IsCutShort asked due status before after ⊎ IsUnreported asked due status before after)
+IsDone asked due status before after =
+    IsMet due status before after
+    ⊎ (IsHalfMet asked due status before after ⊎ (IsWanting asked due status before after ⊎ IsUnwritten due status before after))
 
 -- Of files with these names, numbered from `number` on, one of this name is reached: each file before it spells a tree.
 abbrev pub IsReached : Files → ℕ → List (List ℕ) → List ℕ → Type 0
@@ -196,26 +214,40 @@ IsFileReached files asked name = IsSomeAnd asked (λ a. IsReached files 0 a.file
 
 -- the library failed at a file of the command, and each file before it spells a tree
 pub record IsUnread (files : Files) (asked : Option Asked) (status : ℕ) (before after : Outside) : Type 0 where
-  pub status_is : status ≡ 3
   pub rose : Rose before.read_faults after.read_faults
   pub name : List ℕ
   pub file : IsFileReached files asked name
-  pub err : Appends (refusal_line (refusal.Read name)) before.err after.err
+  pub line : Says (refusal.Read name) status before after
 
--- nothing was written on `out`
+-- nothing was written on `out`: there was no memory, or the library failed
 pub record IsNothing (files : Files) (asked : Option Asked) (status : ℕ) (before after : Outside) : Type 0 where
-  pub cause : IsStopped asked status before after ⊎ IsUnread files asked status before after
+  pub cause : Says refusal.Memory status before after ⊎ IsUnread files asked status before after
   pub out : Appends [] before.out after.out
 
--- a run was ended in its middle: for want of memory, or since the gate of a worker was closed, with exactly the records before a time; or a
--- sink failed, with a part of them
+-- there was no memory to go on with a run, and exactly these records before a time were written
+pub record IsShort (below : ℕ) (text : List ℕ) (status : ℕ) (before after : Outside) : Type 0 where
+  pub line : Says (refusal.MemoryBelow below) status before after
+  pub out : Appends text before.out after.out
+
+-- the gate of a worker was closed, and exactly these records before a time were written
+pub record IsStopped (asked : Option Asked) (below : ℕ) (text : List ℕ) (status : ℕ) (before after : Outside) : Type 0 where
+  pub worker : ℕ
+  pub asked_for : Concerns asked (refusal.Stopped worker below)
+  pub line : Says (refusal.Stopped worker below) status before after
+  pub out : Appends text before.out after.out
+
+-- `out` failed, and a part of these records was written
+pub record IsBroken (text : List ℕ) (status : ℕ) (before after : Outside) : Type 0 where
+  pub rose : Rose before.out_faults after.out_faults
+  pub line : Says refusal.Write status before after
+  pub out : AppendsPrefix text before.out after.out
+
+-- a run was ended in its middle: for want of memory, since the gate of a worker was closed, or since `out` failed
 pub record IsEndedMidway (files : Files) (asked : Option Asked) (status : ℕ) (before after : Outside) : Type 0 where
   pub below : ℕ
   pub text : List ℕ
   pub midway : IsAskedMidway files asked below text
-  pub ended : ((status ≡ 1) × Appends text before.out after.out × Appends (refusal_line (refusal.MemoryBelow below)) before.err after.err)
-      ⊎ (((worker : ℕ) × Concerns asked (refusal.Stopped worker below) × (status ≡ 9) × Appends text before.out after.out × Appends (refusal_line (refusal.Stopped worker below)) before.err after.err)
-      ⊎ ((status ≡ 7) × AppendsPrefix text before.out after.out × IsFailed asked before after))
+  pub ended : IsShort below text status before after ⊎ (IsStopped asked below text status before after ⊎ IsBroken text status before after)
 
 -- A call where this is asked with these files ended with this status.
 abbrev pub Ends : Files → Option Asked → ℕ → Outside → Outside → Type 0

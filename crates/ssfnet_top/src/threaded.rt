@@ -1,7 +1,6 @@
 //! The top call with all commands: `run` by workers in threads, and the others on one thread.
 ghost use Rattle.std.specs.Prelude.{◌≡◌, ◌≤◌, ◌⊎◌, ℕ, List, [], true, None, Some, option_map, length, map, string_bytes, IfErr, IfSome, IsErrAnd, OnOk};
 ghost use Rattle.sim_base.specs.Outside.{Rose, Appends};
-ghost use Rattle.ssfnet_top.specs.declared.refusal.Refusal.{Refusal as RefusalValue};
 ghost use Rattle.ssfnet_top.specs.declared.refusal.Refusal.TheVariants as refusal;
 ghost use Rattle.command_words.specs.Table.{MostWorkers};
 ghost use Rattle.command_words.specs.Schedule.{is_schedule};
@@ -11,7 +10,7 @@ ghost use Rattle.ssfnet_top.specs.Refusals.{status_of};
 ghost use Rattle.ssfnet_top.specs.Outcome.{asked_of, IsCommandDue, IsCommandMidway, IsAskedDue, IsAskedMidway, refusal_line};
 ghost use Rattle.ssfnet_top.specs.FilePlaces.{ArePlaced};
 ghost use Rattle.ssfnet_top.specs.Answering.{Answers, AnswersMidway, IsUntold, told_text, IsReadFault, IsOfCommand, IsOfModel};
-ghost use Rattle.ssfnet_top.specs.Ending.{Ends, Concerns, HasMiddle, MayEndMidway, IsLineCut, IsReportCut, IsToldOf, HasGenerated, HasTold, Tells, WantsReport};
+ghost use Rattle.ssfnet_top.specs.Ending.{Ends, Concerns, HasMiddle, MayEndMidway, IsTelling, IsToldOf, HasGenerated, HasTold, Tells, WantsReport};
 
 use crate::Refusal;
 use crate::files::read_files;
@@ -55,8 +54,7 @@ pub fn ssfnet<R: Threads + Wait + Sync, L: Library, K: Sink, J: Sink, G: Gate + 
     ensures quiet { result ≡ 0 → ¬ WantsReport (asked_of_words (map string_bytes words.now)) → Appends [] (J.held err.old) (J.held err.new) }
     ensures reported { result ≡ 0 → HasTold (asked_of_words (map string_bytes words.now)) (J.held err.old) (J.held err.new) }
     ensures generated { result ≡ 0 → HasGenerated (asked_of_words (map string_bytes words.now)) (K.held out.old) (K.held out.new) }
-    ensures line { (result ≡ 0) ⊎ (((result ≡ 7) × (IsLineCut (asked_of_words (map string_bytes words.now)) (J.faults err.old) (J.faults err.new) (J.held err.old) (J.held err.new)
-        ⊎ IsReportCut (asked_of_words (map string_bytes words.now)) (J.faults err.old) (J.faults err.new) (J.held err.old) (J.held err.new))) ⊎ ((r : RefusalValue) × (status_of r ≡ result) × Concerns (asked_of_words (map string_bytes words.now)) r × Appends (refusal_line r) (J.held err.old) (J.held err.new))) }
+    ensures line { IsTelling (asked_of_words (map string_bytes words.now)) result (J.faults err.old) (J.faults err.new) (J.held err.old) (J.held err.new) }
     ensures stopped { result ≡ 9 → (worker : ℕ) × (below : ℕ) × HasStopped G.stops worker lanes.old lanes.new × Concerns (asked_of_words (map string_bytes words.now)) (refusal.Stopped worker below) × Appends (refusal_line (refusal.Stopped worker below)) (J.held err.old) (J.held err.new) }
     ensures gates { HaveNotFallen G.stops lanes.old lanes.new }
     ensures lanes { length lanes.new ≡ length lanes.old }

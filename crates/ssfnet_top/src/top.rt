@@ -1,15 +1,14 @@
 //! The top call: from words and files to the bytes written and the status.
 ghost use Rattle.std.specs.Prelude.{◌≡◌, ◌≤◌, ◌⊎◌, ◌++◌, ◌∷◌, ℕ, List, [], true, None, Some, option_map, map, string_bytes, IfOk, IfErr, IfSome, IsErrAnd, OnOk, OnErr, vec_len};
 ghost use Rattle.sim_base.specs.Outside.{Rose, Appends, AppendsPrefix};
-ghost use Rattle.ssfnet_top.specs.declared.refusal.Refusal.{Refusal as RefusalValue};
 ghost use Rattle.command_words.specs.Table.{MostFiles};
 ghost use Rattle.command_words.specs.Schedule.{is_schedule};
 ghost use Rattle.command_words.specs.Words.{asked_of_words, IsAlignInRange, IsInRange};
 ghost use Rattle.ssfnet_top.specs.Refusals.{status_of, line_of};
 ghost use Rattle.ssfnet_top.specs.Outcome.{asked_of, mode_of, offline_of, windows_line, IsCommandDue, IsCommandMidway, IsAskedDue, IsAskedMidway, refusal_line};
 ghost use Rattle.ssfnet_top.specs.FilePlaces.{ArePlaced};
-ghost use Rattle.ssfnet_top.specs.Answering.{Answers, AnswersMidway, IsMade, IsOffline, IsUntold, told_text, IsReadFault, IsOfCommand, IsOfModel, IsTold, IsReportTold};
-ghost use Rattle.ssfnet_top.specs.Ending.{Ends, Concerns, HasMiddle, MayEndMidway, IsLineCut, IsReportCut, IsToldOf, HasGenerated, HasTold, Tells, WantsReport};
+ghost use Rattle.ssfnet_top.specs.Answering.{Answers, AnswersMidway, IsMade, IsOffline, IsUntold, told_text, IsReadFault, IsOfCommand, IsOfModel, IsAnswered, IsReportTold};
+ghost use Rattle.ssfnet_top.specs.Ending.{Ends, Concerns, HasMiddle, MayEndMidway, IsTelling, IsToldOf, HasGenerated, HasTold, Tells, WantsReport};
 
 use crate::Refusal;
 use crate::checking::print_counts;
@@ -70,8 +69,7 @@ pub fn offline<L: Library, K: Sink, J: Sink>(
     ensures quiet { result ≡ 0 → ¬ WantsReport (offline_of (asked_of_words (map string_bytes words.now))) → Appends [] (J.held err.old) (J.held err.new) }
     ensures reported { result ≡ 0 → HasTold (offline_of (asked_of_words (map string_bytes words.now))) (J.held err.old) (J.held err.new) }
     ensures generated { result ≡ 0 → HasGenerated (offline_of (asked_of_words (map string_bytes words.now))) (K.held out.old) (K.held out.new) }
-    ensures line { (result ≡ 0) ⊎ (((result ≡ 7) × (IsLineCut (offline_of (asked_of_words (map string_bytes words.now))) (J.faults err.old) (J.faults err.new) (J.held err.old) (J.held err.new)
-        ⊎ IsReportCut (offline_of (asked_of_words (map string_bytes words.now))) (J.faults err.old) (J.faults err.new) (J.held err.old) (J.held err.new))) ⊎ ((r : RefusalValue) × (status_of r ≡ result) × Concerns (offline_of (asked_of_words (map string_bytes words.now))) r × Appends (refusal_line r) (J.held err.old) (J.held err.new))) }
+    ensures line { IsTelling (offline_of (asked_of_words (map string_bytes words.now))) result (J.faults err.old) (J.faults err.new) (J.held err.old) (J.held err.new) }
 {
     let mut told = Told {
         report: Vec::new(alloc),
@@ -273,7 +271,7 @@ fn status_by(written: Result<(), Failed>, status: u8) -> u8
 
 /// Writes the line of a refusal, and answers the status with which the program ends.
 pub(crate) fn tell<J: Sink>(alloc: Global, refusal: &Refusal, err: &mut J) -> u8
-    ensures { IsTold refusal.now result (J.faults err.old) (J.faults err.new) (J.held err.old) (J.held err.new) }
+    ensures { IsAnswered refusal.now result (J.faults err.old) (J.faults err.new) (J.held err.old) (J.held err.new) }
 {
     match refusal {
         Refusal::Memory => say(b"memory\n", MEMORY_STATUS, err),
@@ -297,7 +295,7 @@ pub(crate) fn tell<J: Sink>(alloc: Global, refusal: &Refusal, err: &mut J) -> u8
 /// Makes the line of a refusal and writes it; without memory for it, says so.
 fn tell_cause<J: Sink>(alloc: Global, refusal: &Refusal, err: &mut J) -> u8
     requires { IsMade refusal.now }
-    ensures { IsTold refusal.now result (J.faults err.old) (J.faults err.new) (J.held err.old) (J.held err.new) }
+    ensures { IsAnswered refusal.now result (J.faults err.old) (J.faults err.new) (J.held err.old) (J.held err.new) }
 {
     let mut line = Vec::new(alloc);
     match refusal.push_line(&mut line) {

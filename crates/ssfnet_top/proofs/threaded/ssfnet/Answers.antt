@@ -2,7 +2,7 @@ use Rattle.std.proofs.Common.{map, string_bytes}
 use Rattle.ssfnet_top.specs.Answering.{told_text}
 use Rattle.ssfnet_top.specs.Ending.{Outside}
 use Rattle.command_words.specs.Words.{asked_of_words}
-use Rattle.ssfnet_top.proofs.Endings.{told_refused, told_line, told_well, report_line, report_quiet, report_told}
+use Rattle.ssfnet_top.proofs.Endings.{told_refused, told_line, told_failed, told_well, report_line, report_quiet, report_told}
 use Rattle.worker_pool.specs.Lanes.{HasStopped}
 use Rattle.ssfnet_top.proofs.Stopping.{told_stop}
 use Rattle.ssfnet_top.proofs.threaded.ssfnet.Goals as goal
@@ -72,3 +72,8 @@ pub returns-clause-stopped : goal.returns-clause-stopped
 returns-clause-stopped g c =
     told_stop c.in-Err.refusal (asked_of_words (map string_bytes c.args.words.now)) c.tell.result (g.J.Sink.faults c.args.err.now) (g.J.Sink.faults c.tell.new.err) (g.J.Sink.held c.args.err.now) (g.J.Sink.held c.tell.new.err)
     (λ worker. HasStopped g.G.Gate.stops worker c.args.lanes.now c.answer_by_workers.new.lanes) c.tell.ensures c.in-Err.ensures.concerns c.in-Err.ensures.stopped
+
+pub returns-clause-write : goal.returns-clause-write
+returns-clause-write g c =
+    told_failed c.in-Err.refusal c.tell.result (g.J.Sink.faults c.args.err.now) (g.J.Sink.faults c.tell.new.err) (g.J.Sink.held c.args.err.now) (g.J.Sink.held c.tell.new.err)
+    (g.K.Sink.faults c.args.out.now) (g.K.Sink.faults c.answer_by_workers.new.out) c.tell.ensures c.in-Err.ensures.write

@@ -3,7 +3,7 @@ use Rattle.ssfnet_top.specs.Answering.{told_text}
 use Rattle.ssfnet_top.specs.Ending.{Outside}
 use Rattle.command_words.specs.Words.{asked_of_words}
 use Rattle.ssfnet_top.specs.Outcome.{offline_of}
-use Rattle.ssfnet_top.proofs.Endings.{told_refused, told_line, told_well, report_line, report_quiet, report_told}
+use Rattle.ssfnet_top.proofs.Endings.{told_refused, told_line, told_failed, told_well, report_line, report_quiet, report_told}
 use Rattle.ssfnet_top.proofs.top.offline.Goals as goal
 
 pub returns-in-Ok-clause-outcome : goal.returns-in-Ok-clause-outcome
@@ -66,3 +66,8 @@ returns-in-Ok-clause-reported g c =
     let report = (told_text c.answer.new.told) in
     report_told (offline_of (asked_of_words (map string_bytes c.args.words.now))) report c.tell_report.result _ _ _ _ c.in-Ok.ensures.told
     c.tell_report.ensures
+
+pub returns-clause-write : goal.returns-clause-write
+returns-clause-write g c =
+    told_failed c.in-Err.refusal c.tell.result (g.J.Sink.faults c.args.err.now) (g.J.Sink.faults c.tell.new.err) (g.J.Sink.held c.args.err.now) (g.J.Sink.held c.tell.new.err)
+    (g.K.Sink.faults c.args.out.now) (g.K.Sink.faults c.answer.new.out) c.tell.ensures c.in-Err.ensures.write
