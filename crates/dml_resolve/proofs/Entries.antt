@@ -3,7 +3,6 @@ use Rattle.std.proofs.Common.{◌≡◌, ℕ, ◌<◌, ◌≤◌, ◌+◌, suc, 
 use Rattle.std.specs.Prelude.{cond, nat_eq, not, ◌&&◌, ◌||◌, if◌then◌else◌}
 use Rattle.std.specs.Cmp.Lexicographic.{pointwise}
 use Rattle.std.proofs.Math.Seq.{drop-cons}
-use Rattle.std.proofs.lemmas.List.Elements.{filter-append}
 use Rattle.dml_tree.specs.declared.tree.Place.{Place}
 use Rattle.dml_tree.specs.declared.tree.Attribute.{Attribute}
 use Rattle.dml_tree.specs.declared.tree.Value.{Value}
@@ -12,8 +11,8 @@ use Rattle.dml_tree.specs.Attributes.{Attributes, none}
 use Rattle.dml_tree.specs.TreeView.{tree_of, with_value, attributes}
 use Rattle.dml_tree.proofs.TreeLists.{tree_of-attributes}
 use Rattle.dml_resolve.specs.declared.members.Member.{Member}
-use Rattle.dml_resolve.specs.Resolving.{Counted, Entry, text_entry, list_entry, entry_key, same_key, has_plain, is_substitution, plain_entries, moved, expand, level}
-use Rattle.dml_resolve.specs.Members.{entry_from, entry_of, entries_of, is_keyed, is_missing, moved_to, plain_entry, plain_entry_by}
+use Rattle.dml_resolve.specs.Resolving.{Entry, entry_key, same_key, has_plain, is_substitution, moved, level}
+use Rattle.dml_resolve.specs.Members.{entry_from, entry_of, entries_of, is_keyed, is_missing, moved_to}
 
 -- an item, and those behind it
 pub drop_item : {A : Type 0} (xs : List A) (i : ℕ) (x : A) → i < length xs → x ≡ get_or xs i x → drop i xs ≡ x ∷ drop (i + 1) xs
@@ -39,32 +38,6 @@ has_plain_at xs i x wanted lt is = ap (λ t. has_plain t wanted) (tree_item xs i
 -- a plain attribute of the key stands there
 pub plain_there : (s k rest : Bool) → s ≡ false → k ≡ true → (not s && k || rest) ≡ true
 plain_there s k rest h e = ap (λ b. not b && k || rest) h ∙ ap (λ b. b || rest) e
-
-one_more : (s : Bool) (e : Entry) (rest : List Entry) → (if s then rest else e ∷ rest) ≡ (if s then [] else e ∷ []) ++ rest
-one_more true e rest = refl
-one_more false e rest = refl
-
-plain_entries-with_value : (level : Attributes → Counted (List Entry)) (key : List ℕ) (place : Place) (v : Value) (rest : Attributes) → plain_entries level (with_value key place v rest) ≡ plain_entry_by level key place v ++ plain_entries level rest
-plain_entries-with_value level key place (value.Plain text) rest = one_more (is_substitution key) (text_entry key place text) (plain_entries level rest)
-plain_entries-with_value level key place (value.List inner) rest = one_more (is_substitution key) (list_entry key place inner (expand (level inner))) (plain_entries level rest)
-
-pub plain_at : (level : Attributes → Counted (List Entry)) (wanted : List ℕ) (xs : List Attribute) (i : ℕ) (x : Attribute) → i < length xs → x ≡ get_or xs i x →
-    filter (same_key wanted) (plain_entries level (tree_of (drop i xs))) ≡ filter (same_key wanted) (plain_entry level x) ++ filter (same_key wanted) (plain_entries level (tree_of (drop (i + 1) xs)))
-plain_at level wanted xs i x lt is =
-    ap (λ t. filter (same_key wanted) (plain_entries level t)) (tree_item xs i x lt is)
-    ∙ (ap (filter (same_key wanted)) (plain_entries-with_value level x.key x.place x.value (tree_of (drop (i + 1) xs)))
-    ∙ filter-append (same_key wanted) (plain_entry level x) (plain_entries level (tree_of (drop (i + 1) xs))))
-
-found_one : (s k : Bool) (wanted : List ℕ) (e : Entry) → s ≡ false → same_key wanted e ≡ true → filter (same_key wanted) (if s then [] else e ∷ []) ≡ e ∷ []
-found_one s k wanted e h i = ap (λ b. filter (same_key wanted) (if b then [] else e ∷ [])) h ∙ ap (λ b. if b then e ∷ [] else []) i
-
-found_by : (root : Attributes) (left : ℕ) (key : List ℕ) (place : Place) (v : Value) (wanted : List ℕ) → is_substitution key ≡ false → pointwise nat_eq key wanted ≡ true → filter (same_key wanted) (plain_entry_by (level root left) key place v) ≡ entry_from root left false key place v ∷ []
-found_by root left key place (value.Plain text) wanted h e = found_one (is_substitution key) true wanted (text_entry key place text) h e
-found_by root left key place (value.List inner) wanted h e = found_one (is_substitution key) true wanted (list_entry key place inner (expand (level root left inner))) h e
-
--- a plain attribute of the key is found
-pub found_plain : (root : Attributes) (left : ℕ) (x : Attribute) (wanted : List ℕ) → is_substitution x.key ≡ false → pointwise nat_eq x.key wanted ≡ true → filter (same_key wanted) (plain_entry (level root left) x) ≡ entry_from root left false x.key x.place x.value ∷ []
-found_plain root left x wanted h e = found_by root left x.key x.place x.value wanted h e
 
 pub entries_of-append : (root : Attributes) (xs ys : List Member) → entries_of root (xs ++ ys) ≡ entries_of root xs ++ entries_of root ys
 entries_of-append root [] ys = refl

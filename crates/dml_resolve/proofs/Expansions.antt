@@ -146,13 +146,13 @@ pub weight_at-none : (is_root : Bool) → weight_at is_root none ≡ 0
 weight_at-none true = refl
 weight_at-none false = refl
 
-pub resolved_ok : (root tree : Attributes) (w w' : ℕ) → w ≡ 0 → expand (level_at root most_nested true root) w ≡ Ok (tree, w') → resolved root ≡ Ok tree
+pub resolved_ok : (root same tree : Attributes) (w w' : ℕ) → same ≡ root → w ≡ 0 → expand (level_at same most_nested true root) w ≡ Ok (tree, w') → resolved root ≡ Ok tree
 unfolding resolved
-resolved_ok root tree w w' e f = ap (λ n. result_of (expand (level_at root most_nested true root) n)) (sym e) ∙ ap result_of f
+resolved_ok root same tree w w' i e f = ap (λ n. result_of (expand (level_at root most_nested true root) n)) (sym e) ∙ (ap (λ r. result_of (expand (level_at r most_nested true root) w)) (sym i) ∙ ap result_of f)
 
-pub resolved_err : (root : Attributes) (w : ℕ) (reason : PathFault) → w ≡ 0 → expand (level_at root most_nested true root) w ≡ Err reason → resolved root ≡ Err reason
+pub resolved_err : (root same : Attributes) (w : ℕ) (reason : PathFault) → same ≡ root → w ≡ 0 → expand (level_at same most_nested true root) w ≡ Err reason → resolved root ≡ Err reason
 unfolding resolved
-resolved_err root w reason e f = ap (λ n. result_of (expand (level_at root most_nested true root) n)) (sym e) ∙ ap result_of f
+resolved_err root same w reason i e f = ap (λ n. result_of (expand (level_at root most_nested true root) n)) (sym e) ∙ (ap (λ r. result_of (expand (level_at r most_nested true root) w)) (sym i) ∙ ap result_of f)
 
 pub if_ok : {T E : Type 0} {P Q : T → Type 0} (r : Result T E) → ((x : T) → P x → Q x) → IfOk r P → IfOk r Q
 if_ok (Ok x) f h = f x h

@@ -16,7 +16,7 @@ value_in : (key : List ℕ) (place : Place) (v : Value) (rest : Attributes) → 
 value_in key place (value.Plain text) rest = omega arith
 value_in key place (value.List inner) rest = omega arith
 
-lighter_at : (xs : List Attribute) (i : ℕ) (d : Attribute) → i < length xs → value_weight (get_or xs i d).value < weight (tree_of xs)
+pub lighter_at : (xs : List Attribute) (i : ℕ) (d : Attribute) → i < length xs → value_weight (get_or xs i d).value < weight (tree_of xs)
 lighter_at [] i d lt = absurd (omega arith)
 lighter_at (x ∷ xs) zero d lt = omega (arith, value_in x.key x.place x.value (tree_of xs))
 lighter_at (x ∷ xs) (suc i) d lt = omega (arith, lighter_at xs i d (omega arith), value_in x.key x.place x.value (tree_of xs))
@@ -27,9 +27,6 @@ lighter t xs i x is lt at =
     let same : weight (tree_of xs) ≡ weight t = ap weight (tree_whole t xs is) in
     let own : value_weight x.value ≡ value_weight (get_or xs i x).value = ap (λ (a : Attribute). value_weight a.value) at in
     omega (arith, lighter_at xs i x lt)
-
-pub value_lighter : (t : Attributes) (xs : List Attribute) (i : ℕ) (x : Attribute) → xs ≡ attributes t → i < length xs → x ≡ get_or xs i x → value_weight x.value ≤ weight t
-value_lighter t xs i x is lt at = omega (arith, lighter t xs i x is lt at)
 
 falls_by : (most left v left' v' : ℕ) → (left' ≡ left) ⊎ (left' < left) → (left ≤ left' → v' < v) → v' ≤ most → left' * (most + 1) + v' < left * (most + 1) + v
 falls_by most left v left' v' (inl e) lt small =

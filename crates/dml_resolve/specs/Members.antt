@@ -78,14 +78,6 @@ IsKeysOf written keys = (wanted : List ℕ) → contains_by (λ key. slice_cmp n
 abbrev pub moved_to : ℕ → Member → Member
 moved_to left member = record { attribute = member.attribute; left = left; kept = false }
 
--- an attribute of the root list, where it is plain
-abbrev pub plain_entry_by : (Attributes → Counted (List Entry)) → List ℕ → Place → Value → List Entry
-plain_entry_by level key place (value.Plain text) = if is_substitution key then [] else text_entry key place text ∷ []
-plain_entry_by level key place (value.List inner) = if is_substitution key then [] else list_entry key place inner (expand (level inner)) ∷ []
-
-abbrev pub plain_entry : (Attributes → Counted (List Entry)) → Attribute → List Entry
-plain_entry level attribute = plain_entry_by level attribute.key attribute.place attribute.value
-
 -- how many attributes a value has
 abbrev pub value_weight : Value → ℕ
 value_weight (value.Plain text) = 0

@@ -8,6 +8,7 @@ use crate::PathFault;
 use crate::counter::Counter;
 use crate::levels::level;
 use crate::members::Member;
+use crate::roots::Root;
 use dml_tree::{Attribute, Tree, Value};
 use sim_base::{Memory, Text};
 use std::alloc::Global;
@@ -16,7 +17,7 @@ use std::alloc::Global;
 #[cycle(expanding)]
 pub fn expand<'a>(
     alloc: Global,
-    root: &'a Tree,
+    root: &Root<'a>,
     written: &'a Tree,
     left: u32,
     is_root: bool,
@@ -45,7 +46,7 @@ pub fn expand<'a>(
 #[cycle(expanding)]
 fn value_of<'a>(
     alloc: Global,
-    root: &'a Tree,
+    root: &Root<'a>,
     member: &Member<'a>,
     counter: &mut Counter,
 ) -> Result<Value, PathFault>

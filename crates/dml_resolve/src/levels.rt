@@ -6,9 +6,10 @@ ghost use Rattle.dml_resolve.specs.Members.{entries_of, level_at, given, followe
 
 use crate::PathFault;
 use crate::counter::Counter;
-use crate::members::{Member, first_list, in_root, push_found, push_missing, with_key};
+use crate::members::{Member, first_list, push_found, push_missing, with_key};
 use crate::own_keys::made_once;
 use crate::paths::{components, is_find, is_schemas, is_substitution};
+use crate::roots::{Root, in_root};
 use dml_tree::{Attribute, Place, Tree, Value};
 use std::alloc::Global;
 use std::collections::BTreeSet;
@@ -18,7 +19,7 @@ use std::collections::BTreeSet;
 #[cycle(levels)]
 pub fn level<'a>(
     alloc: Global,
-    root: &'a Tree,
+    root: &Root<'a>,
     written: &'a Tree,
     left: u32,
     is_root: bool,
@@ -50,7 +51,7 @@ pub fn level<'a>(
 // Adds what one attribute of a list gives.
 #[cycle(levels)]
 fn add<'a>(
-    root: &'a Tree,
+    root: &Root<'a>,
     written: &'a Tree,
     attribute: &'a Attribute,
     left: u32,
@@ -91,7 +92,7 @@ fn is_kept(is_root: bool, key: &[u8]) -> bool
 #[cycle(levels)]
 #[tactic(auto, unfolding(crate::specs::Resolving::below))]
 fn follow<'a>(
-    root: &'a Tree,
+    root: &Root<'a>,
     written: &'a Tree,
     attribute: &'a Attribute,
     left: u32,
@@ -137,7 +138,7 @@ fn follow<'a>(
 #[cycle(levels)]
 fn named<'a>(
     alloc: Global,
-    root: &'a Tree,
+    root: &Root<'a>,
     path: &[&[u8]],
     place: Place,
     left: u32,

@@ -12,6 +12,7 @@ mod own_keys;
 mod paths;
 mod places;
 mod resolving;
+mod roots;
 
 pub use places::{first, next};
 pub use resolving::{PathFault, resolve};

@@ -1,11 +1,10 @@
 //! The attributes of a level: where they are written, and what their lists are resolved to.
 ghost use Rattle.std.specs.Prelude.{◌≡◌, ℕ, ◌≤◌, ◌++◌, Ok, Err, IfOk, IfErr, OnOk, All, map, filter};
 ghost use Rattle.dml_tree.specs.Attributes.{Attributes, weight};
-ghost use Rattle.dml_resolve.specs.Resolving.{first_list, plain_entries, level, same_key};
-ghost use Rattle.dml_resolve.specs.Members.{entries_of, is_keyed, is_missing, moved_to, plain_entry, value_weight, IsKeysOf, IsSmall};
+ghost use Rattle.dml_resolve.specs.Resolving.{first_list};
+ghost use Rattle.dml_resolve.specs.Members.{entries_of, is_keyed, is_missing, moved_to, IsKeysOf, IsSmall};
 
 use crate::PathFault;
-use crate::paths::is_substitution;
 use dml_tree::{Attribute, Place, Tree, Value};
 use std::alloc::{AllocError, Global};
 use std::collections::BTreeSet;
@@ -19,43 +18,6 @@ pub struct Member<'a> {
     pub left: u32,
     /// Whether its list is kept as written.
     pub kept: bool,
-}
-
-/// The plain attributes of the root list that have this key.
-pub fn in_root<'a>(
-    alloc: Global,
-    root: &'a Tree,
-    key: &[u8],
-    left: u32,
-) -> Result<Vec<Member<'a>>, AllocError>
-    ensures found { IfOk result (λ members. entries_of root.now members.items ≡ filter (same_key key.now) (plain_entries (level root.now left) root.now)) }
-    ensures small { IfOk result (λ members. All (IsSmall (weight root.now)) members.items) }
-{
-    let mut found = Vec::new(alloc);
-    for attribute in root.attributes() {
-        add_root(attribute, key, left, &mut found)?;
-    }
-    Ok(found)
-}
-
-fn add_root<'a>(
-    attribute: &'a Attribute,
-    key: &[u8],
-    left: u32,
-    found: &mut Vec<Member<'a>>,
-) -> Result<(), AllocError>
-    ensures found { OnOk result ((root : Attributes) → entries_of root found.new.items ≡ entries_of root found.old.items ++ filter (same_key key.now) (plain_entry (level root left) attribute.now)) }
-    ensures small { OnOk result ((most : ℕ) → value_weight attribute.now.value ≤ most → All (IsSmall most) found.old.items → All (IsSmall most) found.new.items) }
-{
-    let written = attribute.key.as_bytes();
-    if !is_substitution(written) && written == key {
-        found.push(Member {
-            attribute,
-            left,
-            kept: false,
-        })?;
-    }
-    Ok(())
 }
 
 /// The members that have this key.

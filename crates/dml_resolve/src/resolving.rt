@@ -5,6 +5,7 @@ ghost use Rattle.dml_resolve.specs.declared.resolving.PathFault.TheVariants.{Mem
 
 use crate::counter::Counter;
 use crate::expanding::expand;
+use crate::roots::Root;
 use dml_tree::{Place, Tree};
 use sim_base::Memory;
 use std::alloc::{AllocError, AllocFailed, Global};
@@ -72,5 +73,6 @@ pub fn resolve(alloc: Global, tree: &Tree) -> Result<Tree, PathFault>
     ensures small { IfOk result (λ resolved_tree. counted_weight resolved_tree ≤ most_weight) }
 {
     let mut counter = Counter::new();
-    expand(alloc, tree, tree, MOST_NESTED, true, &mut counter)
+    let root = Root::of(alloc, tree)?;
+    expand(alloc, &root, tree, MOST_NESTED, true, &mut counter)
 }
